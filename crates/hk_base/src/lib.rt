@@ -1,0 +1,10 @@
+//! Texts, lines and the answers that every crate shares.
+#![tactic(auto)]
+
+mod line;
+mod refusal;
+mod text;
+
+pub use line::{Line, next_line};
+pub use refusal::{NoMemory, Refusal};
+pub use text::Text;
