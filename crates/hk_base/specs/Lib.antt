@@ -1,3 +1,6 @@
 pub mod Answers
 pub mod Bytes
+pub mod Identifier
 pub mod Line
+pub mod Ties
+pub mod IdentTies

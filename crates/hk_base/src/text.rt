@@ -4,6 +4,7 @@ ghost use Rattle.std.specs.Prelude.{◌≡◌, IfOk};
 use crate::NoMemory;
 use std::alloc::Global;
 use std::cmp::Ordering;
+use std::hash::{Hash, Hasher};
 use std::marker::Model;
 
 /// Bytes that need not be UTF-8, ordered byte by byte.
@@ -106,5 +107,18 @@ impl Ord for Text {
 
     fn cmp(&self, other: &Text) -> Ordering {
         self.bytes.as_slice().cmp(other.bytes.as_slice())
+    }
+}
+
+impl Hash for Text {
+    ghost use Rattle.std.specs.Hash as fed;
+    ghost use Rattle.hk_base.specs.Ties.{tied_writes};
+
+    ghost hash_input = { fed.slice fed.u8 };
+
+    ghost respects_eq = { tied_writes (fed.slice fed.u8) };
+
+    fn hash<H: Hasher>(&self, state: &mut H) {
+        self.bytes.hash(state);
     }
 }
