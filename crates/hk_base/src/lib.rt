@@ -10,3 +10,6 @@ pub use identifier::{IdentFault, Identifier, is_path};
 pub use line::{Line, next_line};
 pub use refusal::{NoMemory, Refusal};
 pub use text::Text;
+
+#[cfg(test)]
+mod tests;

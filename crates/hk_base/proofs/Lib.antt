@@ -1,0 +1,3 @@
+pub mod Ascending
+pub mod Both
+pub mod Entries
