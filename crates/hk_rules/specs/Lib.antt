@@ -1,0 +1,5 @@
+pub mod Fence
+pub mod Form
+pub mod Path
+pub mod Planning
+pub mod Resource
