@@ -9,8 +9,8 @@ use Rattle.hk_rules.specs.Path.{is_path}
 use Rattle.hk_rules.specs.declared.rule.Rule.{Rule}
 use Rattle.hk_rules.specs.declared.rule.Step.{Step}
 use Rattle.hk_rules.specs.declared.rule.Step.TheVariants.{Body, Str, Copy}
-use Rattle.hk_rules.specs.declared.reading.RulesFault.{RulesFault}
-use Rattle.hk_rules.specs.declared.reading.RulesFault.TheVariants.{TooLong, NotToml, TooManyRules, NotYet}
+use Rattle.hk_rules.specs.declared.fault.RulesFault.{RulesFault}
+use Rattle.hk_rules.specs.declared.fault.RulesFault.TheVariants.{TooLong, NotToml, TooManyRules, NotYet}
 
 -- ---- one rule
 
@@ -26,8 +26,12 @@ is_rule_key k = (bytes_eq k (codes "match") || bytes_eq k (codes "compile")) || 
 abbrev pub is_literal : Bytes → Bool
 is_literal bytes = list_all (λ b. not (b == 42 || b == 92)) bytes
 
+-- a path that stands for itself alone
+abbrev pub is_exact : Bytes → Bool
+is_exact bytes = is_literal bytes && is_path bytes
+
 abbrev pub path_named : Option Bytes → Option Bytes
-path_named (Some bytes) = if is_literal bytes && is_path bytes then Some bytes else None
+path_named (Some bytes) = if is_exact bytes then Some bytes else None
 path_named None = None
 
 -- the path, by the value at `match`
@@ -100,10 +104,13 @@ abbrev pub most_bytes : ℕ
 most_bytes = 1048576
 
 abbrev pub rules_in : Items → Result (List Rule) RulesFault
-rules_in ds = if nat_lt most_rules (count_of ds) then Err TooManyRules else rules_from 1 ds
+rules_in ds =
+    if not (are_tables ds) then Err (NotYet 0)
+    else if nat_lt most_rules (count_of ds) then Err TooManyRules
+    else rules_from 1 ds
 
 abbrev pub rules_at : Option Items → Result (List Rule) RulesFault
-rules_at (Some ds) = if are_tables ds then rules_in ds else Err (NotYet 0)
+rules_at (Some ds) = rules_in ds
 rules_at None = Err (NotYet 0)
 
 -- the rules, by the value at `rule`

@@ -6,8 +6,8 @@ use Rattle.hk_rules.specs.Fence.{begins_with_fence}
 use Rattle.hk_rules.specs.Resource.{is_companion, companion_ending}
 use Rattle.hk_rules.specs.declared.rule.Rule.{Rule}
 use Rattle.hk_rules.specs.declared.item.Item.{Item}
-use Rattle.hk_rules.specs.declared.planning.PlanFault.{PlanFault}
-use Rattle.hk_rules.specs.declared.planning.PlanFault.TheVariants.{NotYet}
+use Rattle.hk_rules.specs.declared.fault.PlanFault.{PlanFault}
+use Rattle.hk_rules.specs.declared.fault.PlanFault.TheVariants.{NotYet}
 
 -- the first rule that names a path
 abbrev pub rule_at : List Rule → Bytes → Option Rule
