@@ -5,7 +5,7 @@ use Rattle.std.specs.Str.{is_utf8}
 use Rattle.toml.specs.Data.{Data, array, Items, no_items, item, Members, no_members, member, get_member, as_str, as_array, as_table}
 use Rattle.toml.specs.Parse.{parse_document}
 use Rattle.hk_base.specs.Bytes.{Bytes}
-use Rattle.hk_rules.specs.Path.{is_path}
+use Rattle.hk_base.specs.Identifier.{is_path}
 use Rattle.hk_rules.specs.declared.rule.Rule.{Rule}
 use Rattle.hk_rules.specs.declared.rule.Step.{Step}
 use Rattle.hk_rules.specs.declared.rule.Step.TheVariants.{Body, Str, Copy}

@@ -6,9 +6,8 @@ ghost use Rattle.toml.specs.Data.{get_member, as_str};
 ghost use Rattle.toml.specs.View.{view, table_view, items_view};
 ghost use Rattle.hk_rules.specs.Form as spec;
 
-use crate::path::is_path;
 use crate::rule::{Rule, Step};
-use hk_base::{NoMemory, Text};
+use hk_base::{NoMemory, Text, is_path};
 use std::alloc::Global;
 use toml::{Table, Value};
 

@@ -5,7 +5,6 @@ mod fault;
 mod fence;
 mod form;
 mod item;
-mod path;
 mod plan;
 mod reading;
 mod resource;
