@@ -6,36 +6,43 @@ use Rattle.hk_rules.specs.Fence.{begins_with_fence}
 use Rattle.hk_rules.specs.Resource.{is_companion, companion_ending}
 use Rattle.hk_rules.specs.declared.rule.Rule.{Rule}
 use Rattle.hk_rules.specs.declared.item.Item.{Item}
+use Rattle.hk_rules.specs.declared.making.Making.{Making}
 use Rattle.hk_rules.specs.declared.fault.PlanFault.{PlanFault}
 use Rattle.hk_rules.specs.declared.fault.PlanFault.TheVariants.{NotYet}
 
--- the first rule that names a path
-abbrev pub rule_at : List Rule → Bytes → Option Rule
-rule_at rules path = find (λ rule. bytes_eq path rule.path) rules
+-- what a rule makes of its file
+abbrev pub making_of : Rule → Making
+making_of rule = record { routed = rule.routed; step = rule.step }
 
-abbrev pub item_of : Bytes × Bytes → Rule → Item
-item_of file rule = record { path = file.0; routed = rule.routed; step = rule.step; resource = file.1 }
+-- what the first rule that names a path makes of it
+abbrev pub making_at : List Rule → Bytes → Option Making
+making_at rules path = option_map making_of (find (λ rule. bytes_eq rule.path path) rules)
 
--- the item of a file, which is none that goes with another one
-abbrev pub item_at : List Rule → Bytes × Bytes → Option Item
-item_at rules file = if is_companion file.0 then None else option_map (item_of file) (rule_at rules file.0)
+abbrev pub item_of : Bytes × Bytes → Making → Item
+item_of file making = record { path = file.0; routed = making.routed; step = making.step; resource = file.1 }
 
--- one item for each file that a rule names
-abbrev pub items_of : List Rule → List (Bytes × Bytes) → List Item
-items_of rules files = filter_map (item_at rules) files
+-- a companion is no item, nor is a file of which nothing is made
+abbrev pub item_by : (Bytes → Option Making) → Bytes × Bytes → Option Item
+item_by makings file = if is_companion file.0 then None else option_map (item_of file) (makings file.0)
 
--- whether a file goes with the item's
-abbrev pub has_companion : List (Bytes × Bytes) → Item → Bool
-has_companion files item = list_any (λ file. bytes_eq file.0 (item.path ++ companion_ending)) files
+abbrev pub items_by : (Bytes → Option Making) → List (Bytes × Bytes) → List Item
+items_by makings files = filter_map (item_by makings) files
+
+-- whether the companion of the file at a path is among the files
+abbrev pub has_companion : List (Bytes × Bytes) → Bytes → Bool
+has_companion files path = list_any (λ file. bytes_eq file.0 (path ++ companion_ending)) files
 
 -- an item of which nothing can be made yet
-abbrev pub is_not_yet : List (Bytes × Bytes) → Item → Bool
-is_not_yet files item = begins_with_fence item.resource || has_companion files item
+abbrev pub is_not_yet : (Bytes → Bool) → Item → Bool
+is_not_yet accompanied item = begins_with_fence item.resource || accompanied item.path
 
-abbrev pub plan_by : List Item → Option Item → Result (List Item) PlanFault
-plan_by items None = Ok items
-plan_by items (Some item) = Err (NotYet item.path)
+abbrev pub unless : Option Item → List Item → Result (List Item) PlanFault
+unless (Some item) items = Err (NotYet item.path)
+unless None items = Ok items
 
 -- the items, or the first of which nothing can be made yet
+abbrev pub plan_by : (Bytes → Bool) → List Item → Result (List Item) PlanFault
+plan_by accompanied items = unless (find (is_not_yet accompanied) items) items
+
 unfoldable pub plan_of : List Rule → List (Bytes × Bytes) → Result (List Item) PlanFault
-plan_of rules files = plan_by (items_of rules files) (find (is_not_yet files) (items_of rules files))
+plan_of rules files = plan_by (has_companion files) (items_by (making_at rules) files)
