@@ -1,3 +1,4 @@
+pub mod Ascending
 pub mod Companions
 pub mod Documents
 pub mod Endings

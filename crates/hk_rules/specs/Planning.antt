@@ -1,5 +1,5 @@
 -- The plan that rules make of the files of a folder.
-use Rattle.std.specs.Prelude.{List, Bool, ◌||◌, ◌++◌, Option, Some, None, option_map, Result, Ok, Err, bytes_eq, if◌then◌else◌}
+use Rattle.std.specs.Prelude.{List, Bool, ◌||◌, ◌++◌, map, Option, Some, None, option_map, Result, Ok, Err, bytes_eq, if◌then◌else◌}
 use Rattle.std.specs.List.{find, filter_map, list_any}
 use Rattle.hk_base.specs.Bytes.{Bytes}
 use Rattle.hk_rules.specs.Fence.{begins_with_fence}
@@ -28,6 +28,9 @@ item_by makings file = if is_companion file.0 then None else option_map (item_of
 abbrev pub items_by : (Bytes → Option Making) → List (Bytes × Bytes) → List Item
 items_by makings files = filter_map (item_by makings) files
 
+abbrev pub item_paths : List Item → List Bytes
+item_paths items = map (λ item. item.path) items
+
 -- whether the companion of the file at a path is among the files
 abbrev pub has_companion : List (Bytes × Bytes) → Bytes → Bool
 has_companion files path = list_any (λ file. bytes_eq file.0 (path ++ companion_ending)) files
@@ -44,5 +47,6 @@ unless None items = Ok items
 abbrev pub plan_by : (Bytes → Bool) → List Item → Result (List Item) PlanFault
 plan_by accompanied items = unless (find (is_not_yet accompanied) items) items
 
+-- the plan of the files, by the first rule that names each
 unfoldable pub plan_of : List Rule → List (Bytes × Bytes) → Result (List Item) PlanFault
 plan_of rules files = plan_by (has_companion files) (items_by (making_at rules) files)

@@ -33,7 +33,8 @@ pub fn make_plan(
     files: Vec<(Text, Text)>,
 ) -> Result<Plan, Refusal<PlanFault>>
     requires { IsTrue (ascends (paths_of files.items)) }
-    ensures { Answers (spec.plan_of rules files.items) result }
+    ensures plan { Answers (spec.plan_of rules files.items) result }
+    ensures ascending { IfOk result (λ plan. IsTrue (ascends (spec.item_paths plan))) }
 {
     let makings = first_makings(alloc, rules)?;
     let companions = companions_in(alloc, &files)?;
@@ -113,7 +114,8 @@ fn plan_by(
     items: Vec<Item>,
     companions: &BTreeSet<Text>,
 ) -> Result<Plan, Refusal<PlanFault>>
-    ensures { Answers (spec.plan_by (contains (slice_cmp nat_cmp) companions.now) items.items) result }
+    ensures plan { Answers (spec.plan_by (contains (slice_cmp nat_cmp) companions.now) items.items) result }
+    ensures items { IfOk result (λ plan. plan ≡ items.items) }
 {
     match first_not_yet(&items, companions) {
         None => Ok(Plan::of_items(items)),
