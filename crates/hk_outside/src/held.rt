@@ -1,5 +1,5 @@
 // What a folder in memory holds.
-ghost use Rattle.std.specs.Prelude.{◌≡◌, IfOk, is_ok, option_map, if◌then◌else◌};
+ghost use Rattle.std.specs.Prelude.{◌≡◌, IfOk, is_ok, option_map, take, if◌then◌else◌};
 ghost use Rattle.std.specs.FinMap.{empty, get, insert, keys, remove};
 ghost use Rattle.hk_outside.specs.Held.{set_all};
 
@@ -85,5 +85,16 @@ impl Held {
         // The keys are in order, as `len` says.
         let _count = self.map.len();
         self.map.remove(path);
+    }
+}
+
+/// So many first bytes, or all where there are fewer.
+pub fn first(bytes: &[u8], count: usize) -> &[u8]
+    ensures { result.now ≡ take count bytes.now }
+{
+    if count < bytes.len() {
+        &bytes[..count]
+    } else {
+        bytes
     }
 }
