@@ -9,6 +9,8 @@ mod mem_tree;
 mod sink;
 mod still_sink;
 mod still_tree;
+#[cfg(test)]
+mod tests;
 mod tree;
 
 pub use call::{CallKind, Fail};

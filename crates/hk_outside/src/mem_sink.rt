@@ -1,5 +1,5 @@
 // A sink in memory whose writes fail as it was told.
-ghost use Rattle.std.specs.Prelude.{◌≡◌, IfOk, ◌+◌, ◌==◌, find, option_map};
+ghost use Rattle.std.specs.Prelude.{◌≡◌, IsOkAnd, ◌+◌, ◌==◌, find, option_map};
 ghost use Rattle.hk_outside.specs.Mem.{Fated, after_write, output, torn_fate, torn_of};
 
 use crate::held::first;
@@ -28,11 +28,11 @@ impl Model for MemSink {
 impl MemSink {
     /// A sink to which nothing was written. Each member of `fails` is the number of a write, counted from 1, and a number
     /// of bytes: that write fails after so many of its first bytes were appended, or all where there are fewer. Of
-    /// several members for one write the first counts. `NoMemory` only for want of memory. Constant.
+    /// several members for one write the first counts. It takes no memory, so it is always `Ok`. Constant.
     ///
     /// Each write is counted, also one that failed or had no memory, and costs a walk over `fails`.
     pub fn new(alloc: Global, fails: Vec<(u64, usize)>) -> Result<MemSink, NoMemory>
-        ensures { IfOk result (λ s. s ≡ output fails.items) }
+        ensures { IsOkAnd result (λ s. s ≡ output fails.items) }
     {
         Ok(MemSink {
             bytes: Vec::new(alloc),

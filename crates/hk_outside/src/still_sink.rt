@@ -1,5 +1,5 @@
 // A sink in memory that never fails.
-ghost use Rattle.std.specs.Prelude.{◌≡◌, [], IfOk};
+ghost use Rattle.std.specs.Prelude.{◌≡◌, [], IsOkAnd};
 
 use crate::{Sink, TreeFault};
 use hk_base::NoMemory;
@@ -21,9 +21,9 @@ impl Model for StillSink {
 }
 
 impl StillSink {
-    /// A sink to which nothing was written. `NoMemory` only for want of memory. Constant.
+    /// A sink to which nothing was written. It takes no memory, so it is always `Ok`. Constant.
     pub fn new(alloc: Global) -> Result<StillSink, NoMemory>
-        ensures { IfOk result (λ s. s ≡ []) }
+        ensures { IsOkAnd result (λ s. s ≡ []) }
     {
         Ok(StillSink {
             bytes: Vec::new(alloc),
