@@ -1,0 +1,35 @@
+# build    the proved program, as ./hakyll_cli
+# install  the same under PREFIX, /usr/local where none is given
+# demo     builds the example site in out/demo and prints its pages
+# test     the gate: every proof, test and must-fail edit, and the end-to-end cases
+# clean    takes away what the others made
+PREFIX = /usr/local
+program = crates/hk_cli/out/hk_cli
+sources = $(shell find crates -type f -not -path '*/out/*' -not -path '*/must-fail/*')
+
+.PHONY: build install demo test clean
+
+build: hakyll_cli
+
+hakyll_cli: $(program)
+	cp $(program) $@
+
+# `rt run` proves the crates, links the program and runs it; with a word that is no command it prints its usage.
+$(program): crates.txt HANDLES $(sources)
+	cd crates/hk_cli && case "$$(rt run -- help)" in usage:*) ;; *) exit 1 ;; esac
+	touch $@
+
+install: build
+	mkdir -p $(DESTDIR)$(PREFIX)/bin
+	cp hakyll_cli $(DESTDIR)$(PREFIX)/bin/hakyll_cli
+
+# The proved program where it stands and is as new as its sources, and else an unproved build.
+demo:
+	@rm -rf out/demo
+	@if $(MAKE) -q $(program) >/dev/null 2>&1; then examples/demo out/demo $(program); else examples/demo out/demo; fi
+
+test:
+	.ci/run
+
+clean:
+	rm -rf hakyll_cli out crates/*/out
