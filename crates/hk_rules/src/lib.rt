@@ -11,6 +11,8 @@ mod planning;
 mod reading;
 mod resource;
 mod rule;
+#[cfg(test)]
+mod tests;
 
 pub use fault::{PlanFault, RulesFault};
 pub use item::Item;
