@@ -1,0 +1,6 @@
+pub mod Building
+pub mod FolderReads
+pub mod FolderWrites
+pub mod Making
+pub mod Targets
+pub mod WholeSite

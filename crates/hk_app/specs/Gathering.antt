@@ -1,0 +1,39 @@
+-- What reading the source comes to.
+use Rattle.std.specs.Prelude.{◌≡◌, IfSome, IsTrue}
+use Rattle.hk_base.specs.Bytes.{Bytes, ascends}
+use Rattle.hk_rules.specs.Planning.{item_paths}
+use Rattle.hk_outside.specs.Causes.{Rose}
+use Rattle.hk_app.specs.declared.status.Status.{Status}
+use Rattle.hk_app.specs.declared.status.Status.TheVariants.{BadRules, BadSite, ReadFault}
+use Rattle.hk_app.specs.declared.reading.Gathered.{Gathered}
+use Rattle.hk_app.specs.declared.reading.Gathered.TheVariants.{Refused, Planned}
+use Rattle.hk_app.specs.Site.{Reading, planned, reading}
+use Rattle.hk_app.specs.Printed.{read_fault_line}
+use Rattle.hk_app.specs.Promise.{IsBadRules, IsBadSite}
+use Rattle.hk_app.specs.World.{Folder}
+
+-- a status and a text that refuse what was read
+abbrev pub RefusesReading : Reading → Status → Bytes → Type 0
+RefusesReading r BadRules text = IsBadRules text r
+RefusesReading r BadSite text = IsBadSite text r
+RefusesReading r status text = ⊥
+
+abbrev pub ReadsAs : Reading → Gathered → Type 0
+ReadsAs r (Refused e) = RefusesReading r e.status e.text
+ReadsAs r (Planned items) = r ≡ planned items
+
+-- a status and a text that refuse a folder, or the reading of it
+abbrev pub RefusesFolder : Folder → Folder → Status → Bytes → Type 0
+RefusesFolder old new ReadFault text = Rose old.faults new.faults × (text ≡ read_fault_line)
+RefusesFolder old new BadRules text = IfSome old.files (λ m. IsBadRules text (reading m))
+RefusesFolder old new BadSite text = IfSome old.files (λ m. IsBadSite text (reading m))
+RefusesFolder old new status text = ⊥
+
+abbrev pub Gathers : Folder → Folder → Gathered → Type 0
+Gathers old new (Refused e) = RefusesFolder old new e.status e.text
+Gathers old new (Planned items) = IfSome old.files (λ m. reading m ≡ planned items)
+
+-- the items of a plan are in order
+abbrev pub ItemsAscend : Gathered → Type 0
+ItemsAscend (Refused e) = Unit {0}
+ItemsAscend (Planned items) = IsTrue (ascends (item_paths items))

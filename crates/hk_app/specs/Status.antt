@@ -1,0 +1,14 @@
+-- The exit code of each status.
+use Rattle.std.specs.Prelude.{ℕ}
+use Rattle.hk_app.specs.declared.status.Status.{Status}
+use Rattle.hk_app.specs.declared.status.Status.TheVariants.{Ok, Usage, BadRules, BadSite, ReadFault, WriteFault, OutFault, NoMemory}
+
+abbrev pub code_of : Status → ℕ
+code_of Ok = 0
+code_of Usage = 2
+code_of BadRules = 3
+code_of BadSite = 4
+code_of ReadFault = 5
+code_of WriteFault = 6
+code_of OutFault = 8
+code_of NoMemory = 9
