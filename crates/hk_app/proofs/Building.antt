@@ -1,5 +1,5 @@
 -- From what the parts of a run answer to what the run promises, over plain values.
-use Rattle.std.proofs.Common.{◌≡◌, ℕ, Bool, true, false, ◌&&◌, cond, not, List, [], ◌∷◌, filter, map, Option, Some, None, refl, sym, ap, subst, ◌∙◌, IfSome, IfOk, Result, Ok, Err, length, inl, inr, append-nil, ◌≤◌}
+use Rattle.std.proofs.Common.{◌≡◌, ℕ, Bool, true, false, ◌&&◌, cond, not, List, [], ◌∷◌, filter, map, Option, Some, None, refl, sym, ap, subst, ◌∙◌, IfSome, IfOk, Result, Ok, Err, length, inl, inr, ⊎_elim, ◌⊎◌, append-nil, ◌≤◌}
 use Rattle.std.specs.Prelude.{bytes_eq, T, ◌||◌}
 use Rattle.std.specs.Ordering.{nat_cmp, is_lt, eq_by_cmp}
 use Rattle.std.specs.Cmp.Lexicographic.{slice_cmp}
@@ -23,7 +23,10 @@ use Rattle.hk_app.specs.Writing.{changes, writings, removals, after, IsMadeInPar
 use Rattle.hk_app.specs.declared.ended.Ended.{Ended}
 use Rattle.hk_app.specs.Site.{Reading, absent, refused, unplanned, planned, found_at, rules_path, is_read, are_read, sources, files_reading, text_reading, reading, pages, page_of, site_of}
 use Rattle.hk_app.specs.World.{Folder, Folders, Output}
-use Rattle.hk_app.specs.Promise.{Command, build, command, Same, Always, Plans, IsBuilt, IsBadRules, IsBadSite, IsPartlySite, Holds, Ends, LeavesWanting, untouched, partly, whole, torn, EndsBuild, EndsBuilt, WantsBuilt, Written, Cut, AtNoMemory, Said, IsExcused, Completes, Promise, Says}
+use Rattle.hk_app.specs.Promise.{Command, build, command, Same, Always, Plans, IsBuilt, IsBadRules, IsBadSite, IsPartlySite, Holds, LeavesWanting, untouched, partly, whole, torn, Written, Cut, AtNoMemory, Said, IsExcused, Completes, Promise}
+use Rattle.hk_outside.specs.Causes.{Rose}
+use Rattle.hk_app.specs.Complete.{DoneOrWanting}
+use Rattle.hk_app.specs.Run.{Ends, EndsBuild, EndsBuilt, WantsBuilt, Says}
 use Rattle.hk_app.proofs.FolderReads.{same_key}
 
 abbrev R : Bytes → Bytes → Ordering
@@ -203,3 +206,21 @@ promise words old new out out' status text NoMemory h s later = record {
   said = record { leaves = leaves words old new status text h.holds; written = s };
   complete = λ asked. always-true old.source.files (Unit {0}) tt;
 }
+
+-- ---- where nothing fails
+
+none-rose : (old new : Folders) (out out' : Output) → IsExcused old new out out' → ¬ (Rose old.source.faults new.source.faults) → ¬ (Rose old.site.faults new.site.faults) → ¬ (Rose out.faults out'.faults) → ⊥
+none-rose old new out out' h a b c = ⊎_elim (λ x. ⊎_elim a b x) c h.some
+
+pub done-or-wanting : (words : List Bytes) (m : Files) (old new : Folders) (out out' : Output) (status : Status) → old.source.files ≡ Some m → ¬ (Rose old.source.faults new.source.faults) → ¬ (Rose old.site.faults new.site.faults) → ¬ (Rose out.faults out'.faults) → Promise words old new out out' status → DoneOrWanting words m status
+done-or-wanting words m old new out out' status told a b c p items asked is = by status (subst (λ o. IfSome o (λ m. (items : List Item) → reading m ≡ planned items → Completes old new out out' status)) told (p.complete asked) items is)
+  where
+    by : (status : Status) → Completes old new out out' status → (status ≡ Done) ⊎ (status ≡ NoMemory)
+    by Done h = inl refl
+    by NoMemory h = inr refl
+    by Usage h = absurd (none-rose old new out out' h a b c)
+    by BadRules h = absurd (none-rose old new out out' h a b c)
+    by BadSite h = absurd (none-rose old new out out' h a b c)
+    by ReadFault h = absurd (none-rose old new out out' h a b c)
+    by WriteFault h = absurd (none-rose old new out out' h a b c)
+    by OutFault h = absurd (none-rose old new out out' h a b c)

@@ -1,7 +1,9 @@
+pub mod Complete
 pub mod Gathering
 pub mod Printed
 pub mod Promise
 pub mod Reading
+pub mod Run
 pub mod Site
 pub mod Status
 pub mod World

@@ -1,13 +1,11 @@
 -- What each status of a run promises.
-use Rattle.std.specs.Prelude.{◌≡◌, ◌⊎◌, ℕ, ◌≤◌, List, [], ◌∷◌, ◌++◌, Option, Some, None, IfSome, Result, Ok, Err, codes, bytes_eq, if◌then◌else◌, length, take}
+use Rattle.std.specs.Prelude.{◌≡◌, ◌⊎◌, ℕ, ◌≤◌, List, [], ◌∷◌, ◌++◌, Option, Some, None, IfSome, IsSome, codes, bytes_eq, if◌then◌else◌, length, take}
 use Rattle.std.specs.FinMap.{keys}
-use Rattle.hk_base.specs.declared.refusal.NoMemory.{NoMemory as NoMemory-data}
 use Rattle.hk_base.specs.Bytes.{Bytes, Files}
 use Rattle.hk_outside.specs.Causes.{Rose}
 use Rattle.hk_rules.specs.declared.item.Item.{Item}
 use Rattle.hk_app.specs.declared.status.Status.{Status}
 use Rattle.hk_app.specs.declared.status.Status.TheVariants.{Ok as Done, Usage, BadRules, BadSite, ReadFault, WriteFault, OutFault, NoMemory}
-use Rattle.hk_app.specs.declared.ended.Ended.{Ended}
 use Rattle.hk_app.specs.Site.{Reading, absent, refused, unplanned, planned, reading, pages, site_of}
 use Rattle.hk_app.specs.Printed.{usage, absent_line, rules_line, plan_line, read_fault_line, write_fault_line, summary}
 use Rattle.hk_app.specs.Writing.{changes, writings, removals, IsMadeInPart, IsTornInPart}
@@ -25,11 +23,16 @@ command _ = None
 abbrev pub Same : Folder → Folder → Type 0
 Same old new = new.files ≡ old.files
 
+-- a folder that told its files tells them still
+abbrev pub Told : Folder → Folder → Type 0
+Told old new = IfSome old.files (λ m. IsSome new.files)
+
 -- what holds with every status
 pub record Always (old new : Folders) : Type 0 where
   pub source : Same old.source new.source
   pub source_count : old.source.faults ≤ new.source.faults
   pub site_count : old.site.faults ≤ new.site.faults
+  pub site_told : Told old.site new.site
   pub cache : Same old.cache new.cache
   pub cache_count : new.cache.faults ≡ old.cache.faults
 
@@ -118,33 +121,6 @@ pub data LeavesWanting (words : List Bytes) (old new : Folders) : Type 0 where
   whole : command words ≡ Some build → Plans old (IsWholeSite new.site.files) → LeavesWanting words old new
   torn : command words ≡ Some build → Rose old.site.faults new.site.faults → Plans old (IsTornSite new.site.files) → LeavesWanting words old new
 
--- what a run without its last write came to
-pub record Ends (words : List Bytes) (old new : Folders) (status : Status) (text : Bytes) : Type 0 where
-  pub always : Always old new
-  pub holds : Holds words old new status text
-
-pub record Wants (words : List Bytes) (old new : Folders) : Type 0 where
-  pub always : Always old new
-  pub leaves : LeavesWanting words old new
-
-abbrev pub EndsWith : List Bytes → Folders → Folders → Result Ended NoMemory-data → Type 0
-EndsWith words old new (Ok e) = Ends words old new e.status e.text
-EndsWith words old new (Err e) = Wants words old new
-
--- what the writing of a plan's pages came to: all were written, or a call failed, or memory was wanting
-abbrev pub EndsBuilt : List Item → Folder → Folder → Status → Bytes → Type 0
-EndsBuilt items old new Done text = IfSome old.files (IsBuilt new.files text items)
-EndsBuilt items old new WriteFault text = Rose old.faults new.faults × (IfSome old.files (IsTornSite new.files items) × (text ≡ write_fault_line))
-EndsBuilt items old new status text = ⊥
-
--- memory was wanting after some of the changes, or after a failed one
-abbrev pub WantsBuilt : List Item → Folder → Folder → Type 0
-WantsBuilt items old new = IfSome old.files (IsPartlySite new.files items) ⊎ (Rose old.faults new.faults × IfSome old.files (IsTornSite new.files items))
-
-abbrev pub EndsBuild : List Item → Folder → Folder → Result Ended NoMemory-data → Type 0
-EndsBuild items old new (Ok e) = EndsBuilt items old new e.status e.text
-EndsBuild items old new (Err e) = WantsBuilt items old new
-
 -- a text and the writing of it
 pub record Written (old new : Output) (text : Bytes) : Type 0 where
   pub all : IfSome old.written (λ w. new.written ≡ Some (w ++ text))
@@ -178,9 +154,3 @@ pub record Promise (words : List Bytes) (old new : Folders) (out out' : Output) 
   pub later : out.faults ≤ out'.faults
   pub said : Said words old new out out' status
   pub complete : command words ≡ Some build → IfSome old.source.files (λ m. (items : List Item) → reading m ≡ planned items → Completes old new out out' status)
-
--- what saying a text makes of a status
-abbrev pub Says : Output → Output → Bytes → Status → Status → Type 0
-Says old new text status OutFault = Cut old new text
-Says old new text status NoMemory = new.written ≡ old.written
-Says old new text status result = (result ≡ status) × Written old new text

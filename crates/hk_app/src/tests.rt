@@ -1,7 +1,10 @@
 // The top call on folders in memory, those that fail among them.
+ghost use Rattle.std.specs.Prelude.{map, string_bytes};
+ghost use Rattle.hk_app.specs.Complete.{DoneOrWanting};
+
 use crate::{Status, site_main_one};
 use hk_base::{NoMemory, Text};
-use hk_outside::{CallKind, Fail, MemSink, MemTree, StillSink, StillTree, Tree};
+use hk_outside::{CallKind, Fail, MemSink, MemTree, StillSink, StillTree};
 use std::alloc::Global;
 use std::test;
 
@@ -36,8 +39,14 @@ fn fused(alloc: Global, list: &[(&str, &str)], fuse: Option<u64>) -> Result<MemT
 }
 
 /// A tree of which one call fails.
-fn failing(alloc: Global, list: &[(&str, &str)], fail: Fail) -> Result<MemTree, NoMemory> {
-    let fails = vec![in alloc; fail]?;
+fn failing(
+    alloc: Global,
+    list: &[(&str, &str)],
+    call: CallKind,
+    number: u64,
+    torn: Option<usize>,
+) -> Result<MemTree, NoMemory> {
+    let fails = vec![in alloc; Fail { call, number, torn }]?;
     MemTree::new(alloc, files(alloc, list)?, fails, None)
 }
 
@@ -120,6 +129,20 @@ fn words_that_are_no_command(rt: HostRuntime) -> Result<(), test::Fail> {
     Ok(())
 }
 
+/// A site that never fails, with what another one holds at the two paths.
+fn copied(alloc: Global, site: &MemTree) -> Result<MemTree, NoMemory> {
+    let mut left = Vec::new(alloc);
+    for path in [b"a.txt".as_slice(), b"old.txt".as_slice()] {
+        if let Some(bytes) = site.get(path) {
+            left.push((
+                Text::from_slice(alloc, path)?,
+                Text::from_slice(alloc, bytes)?,
+            ))?;
+        }
+    }
+    MemTree::new(alloc, left, Vec::new(alloc), None)
+}
+
 /// Each call of the source and of the site fails in turn, and the next build mends all.
 #[test]
 fn each_call_fails_in_turn(rt: HostRuntime) -> Result<(), test::Fail> {
@@ -142,6 +165,11 @@ fn each_call_fails_in_turn(rt: HostRuntime) -> Result<(), test::Fail> {
         assert_eq!(rt; out.as_slice(), wanted.1.as_bytes());
         assert_eq!(rt; site.get(b"old.txt").is_some(), call < 5);
         assert!(rt; site.get(b"a.txt").is_none());
+        let mut site = copied(alloc, &site)?;
+        let again = built(alloc, &SOURCE, &mut site, &mut StillSink::new(alloc)?)?;
+        assert_eq!(rt; again, Status::Ok);
+        assert!(rt; site.get(b"old.txt").is_none());
+        assert!(rt; site.get(b"a.txt") == Some(b"hi\n".as_slice()));
     }
     Ok(())
 }
@@ -150,12 +178,7 @@ fn each_call_fails_in_turn(rt: HostRuntime) -> Result<(), test::Fail> {
 fn a_torn_page_is_mended(rt: HostRuntime) -> Result<(), test::Fail> {
     let alloc = rt.alloc();
     for count in 0..4 {
-        let fail = Fail {
-            call: CallKind::Write,
-            number: 1,
-            torn: Some(count),
-        };
-        let mut site = failing(alloc, &SITE, fail)?;
+        let mut site = failing(alloc, &SITE, CallKind::Write, 1, Some(count))?;
         let mut out = StillSink::new(alloc)?;
         let status = built(alloc, &SOURCE, &mut site, &mut out)?;
         assert_eq!(rt; status, Status::WriteFault);
@@ -167,18 +190,53 @@ fn a_torn_page_is_mended(rt: HostRuntime) -> Result<(), test::Fail> {
     Ok(())
 }
 
+/// Every file that isn't ignored is read, whether a rule names it or not, and no other file.
 #[test]
-fn a_cut_text(rt: HostRuntime) -> Result<(), test::Fail> {
+fn what_is_read(rt: HostRuntime) -> Result<(), test::Fail> {
     let alloc = rt.alloc();
-    let mut source = fused(alloc, &SOURCE, None)?;
-    let mut site = fused(alloc, &SITE, None)?;
-    let mut cache = fused(alloc, &[], None)?;
-    let mut out = MemSink::new(alloc, vec![in alloc; (1, 5)]?)?;
     let build = words(alloc, &["build"])?;
-    let status = site_main_one(alloc, &build, &mut source, &mut site, &mut cache, &mut out);
-    assert_eq!(rt; status, Status::OutFault);
-    assert_eq!(rt; out.as_slice(), b"compi".as_slice());
-    assert!(rt; site.get(b"a.txt") == Some(b"hi\n".as_slice()));
-    assert!(rt; source.list(alloc).is_ok());
+    let rows = [("b.txt", 2, Status::ReadFault), ("b~", 3, Status::Ok)];
+    for (path, number, wanted) in rows {
+        let list = [SOURCE[0], (path, ""), SOURCE[1]];
+        let mut source = failing(alloc, &list, CallKind::Read, number, None)?;
+        let mut site = fused(alloc, &SITE, None)?;
+        let mut cache = fused(alloc, &[], Some(0))?;
+        let mut out = StillSink::new(alloc)?;
+        let status = site_main_one(alloc, &build, &mut source, &mut site, &mut cache, &mut out);
+        assert_eq!(rt; status, wanted);
+    }
     Ok(())
+}
+
+/// The text is one write, and cut where that write is.
+#[test]
+fn the_text_is_one_write(rt: HostRuntime) -> Result<(), test::Fail> {
+    let alloc = rt.alloc();
+    let build = words(alloc, &["build"])?;
+    let rows = [(1, Status::OutFault, "compi"), (2, Status::Ok, FIRST)];
+    for (number, wanted, text) in rows {
+        let mut source = fused(alloc, &SOURCE, None)?;
+        let mut site = fused(alloc, &SITE, None)?;
+        let mut cache = fused(alloc, &[], Some(0))?;
+        let mut out = MemSink::new(alloc, vec![in alloc; (number, 5)]?)?;
+        let status = site_main_one(alloc, &build, &mut source, &mut site, &mut cache, &mut out);
+        assert_eq!(rt; status, wanted);
+        assert_eq!(rt; out.as_slice(), text.as_bytes());
+        assert!(rt; site.get(b"a.txt") == Some(b"hi\n".as_slice()));
+    }
+    Ok(())
+}
+
+/// Over folders and an output that never fail, a build that is planned is done, or memory was wanting.
+fn built_still(
+    alloc: Global,
+    words: &[String],
+    source: &mut StillTree,
+    site: &mut StillTree,
+    cache: &mut StillTree,
+    out: &mut StillSink,
+) -> Status
+    ensures { DoneOrWanting (map (λ w. string_bytes w) words.now) source.old result }
+{
+    site_main_one(alloc, words, source, site, cache, out)
 }
