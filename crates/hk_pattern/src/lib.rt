@@ -2,7 +2,10 @@
 #![tactic(auto)]
 
 mod glob;
+mod pattern;
 mod piece;
 mod walk;
 
 pub use glob::{Glob, GlobFault};
+pub use pattern::Pattern;
+pub use sqlite_items::{Boxed, Items};
