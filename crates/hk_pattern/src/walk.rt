@@ -111,7 +111,7 @@ fn find_stars_after_star<'a>(pieces: &'a [Piece], path: &'a [u8]) -> Walk<'a>
             Head::Differs => match path {
                 [] => return Walk::TooShort,
                 [b'/', ..] => return Walk::Crossed,
-                [_, later @ ..] => path = later,
+                [_, more @ ..] => path = more,
             },
         }
     }
