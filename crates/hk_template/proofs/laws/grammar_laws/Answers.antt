@@ -1,0 +1,11 @@
+use Rattle.hk_template.proofs.Grammar
+use Rattle.hk_template.proofs.laws.grammar_laws.Goals as goal
+
+pub returns-clause-one_tree : goal.returns-clause-one_tree
+returns-clause-one_tree c = Grammar.one_tree
+
+pub returns-clause-tree_or_fault : goal.returns-clause-tree_or_fault
+returns-clause-tree_or_fault c = Grammar.tree_or_fault
+
+pub returns-clause-reads_again : goal.returns-clause-reads_again
+returns-clause-reads_again c = Grammar.reads_again

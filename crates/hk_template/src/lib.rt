@@ -1,0 +1,23 @@
+//! Templates: their grammar, read and printed.
+#![tactic(auto)]
+
+mod cut;
+mod fault;
+mod frame;
+mod key;
+mod laws;
+mod node;
+mod parser;
+mod print;
+mod reader;
+mod token;
+mod trim;
+
+pub use fault::TemplateFault;
+pub use laws::grammar_laws;
+pub use node::{Node, Template};
+pub use print::print_template;
+pub use reader::parse;
+
+#[cfg(test)]
+mod tests;
