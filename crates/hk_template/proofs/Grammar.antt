@@ -8,8 +8,8 @@ use Rattle.hk_template.specs.Tree.{Nodes, nodes_tokens, nodes_depth, dollar_node
 use Rattle.hk_template.specs.Cut.{Cuts, cut}
 use Rattle.hk_template.specs.Template.{IsTemplate, IsPrintable, tree_text}
 use Rattle.hk_template.specs.Fault.{first_fault}
-use Rattle.hk_template.specs.Growing.{State, Waiting, waits, waits_if, flushed, with_node, word_step, grown_from, grown_on, grown, start}
-use Rattle.hk_template.specs.Parsing.{IsOnlyTree, IsFaulty, Parses, OneTree, ReadsAgain, TreeOrFault}
+use Rattle.hk_template.specs.Growing.{State, Waiting, waits, waits_if, flushed, with_node, word_step, grown_from, grown_on, read_tree, start}
+use Rattle.hk_template.specs.Parsing.{IsOnlyTree, IsFaulty, Parses, OneTree, ReadsAgain, TreeOrFault, AsFunction}
 use Rattle.hk_template.specs.Stepping.{Grows}
 use Rattle.hk_template.specs.View.{tree_of}
 use Rattle.hk_template.specs.declared.node.Template.{Template}
@@ -33,8 +33,8 @@ ok_of (Ok other) tree e = let same : other ≡ tree = cc in ap Ok same
 ok_of (Err fault) tree e = let no : ⊥ = cc in absurd no
 
 -- a tree of a text grows from it
-pub complete : (bytes : Bytes) (tree : Nodes) → IsTemplate bytes tree → grown bytes ≡ Ok tree
-unfolding grown
+pub complete : (bytes : Bytes) (tree : Nodes) → IsTemplate bytes tree → read_tree bytes ≡ Ok tree
+unfolding read_tree
 complete bytes tree h =
     let whole : cut bytes ≡ (h.tokens, true) = ap cut h.spelled ∙ spelled_cut h.tokens h.proper h.apart in
     let P : Cuts → Type 0 = λ c. grown_from 0 beginning c.0 c.1 ≡ Ok tree in
@@ -59,8 +59,8 @@ whole_if ts true tree e = refl
 whole_if ts false tree e = absurd (let P : Result Nodes TemplateFault → Type 0 = λ r. Never r in subst P e (never 0 beginning ts))
 
 -- what grows from a text is a tree of it
-pub sound : (bytes : Bytes) (tree : Nodes) → grown bytes ≡ Ok tree → IsTemplate bytes tree
-unfolding grown
+pub sound : (bytes : Bytes) (tree : Nodes) → read_tree bytes ≡ Ok tree → IsTemplate bytes tree
+unfolding read_tree
 sound bytes tree e =
     let ts : List Token = (cut bytes).0 in
     let whole : (cut bytes).1 ≡ true = whole_if ts (cut bytes).1 tree e in
@@ -78,17 +78,17 @@ sound bytes tree e =
     }
 
 -- the fault of what grows is the first one
-pub faults : (bytes : Bytes) → result_err (grown bytes) ≡ first_fault bytes
-unfolding grown first_fault
+pub faults : (bytes : Bytes) → result_err (read_tree bytes) ≡ first_fault bytes
+unfolding read_tree first_fault
 faults bytes = grown_fault 0 beginning (cut bytes).0 (cut bytes).1
 
 pub one_tree : OneTree
-one_tree bytes a b h g = let x : grown bytes ≡ Ok a = complete bytes a h in let y : grown bytes ≡ Ok b = complete bytes b g in cc
+one_tree bytes a b h g = let x : read_tree bytes ≡ Ok a = complete bytes a h in let y : read_tree bytes ≡ Ok b = complete bytes b g in cc
 
 pub reads_again : ReadsAgain
 reads_again = printed
 
-pub only_tree : (bytes : Bytes) (tree : Nodes) → grown bytes ≡ Ok tree → IsOnlyTree bytes tree
+pub only_tree : (bytes : Bytes) (tree : Nodes) → read_tree bytes ≡ Ok tree → IsOnlyTree bytes tree
 only_tree bytes tree e = record {
   grammar = sound bytes tree e;
   only = λ other h. one_tree bytes other tree h (sound bytes tree e);
@@ -96,21 +96,21 @@ only_tree bytes tree e = record {
   faultless = sym (faults bytes) ∙ ap result_err e;
 }
 
-pub faulty : (bytes : Bytes) (fault : TemplateFault) → grown bytes ≡ Err fault → IsFaulty bytes fault
+pub faulty : (bytes : Bytes) (fault : TemplateFault) → read_tree bytes ≡ Err fault → IsFaulty bytes fault
 faulty bytes fault e = record {
-  no_tree = λ tree h. let x : grown bytes ≡ Ok tree = complete bytes tree h in let no : ⊥ = cc in no;
+  no_tree = λ tree h. let x : read_tree bytes ≡ Ok tree = complete bytes tree h in let no : ⊥ = cc in no;
   first = sym (faults bytes) ∙ ap result_err e;
 }
 
-tree_or_fault_by : (bytes : Bytes) (r : Result Nodes TemplateFault) → grown bytes ≡ r → (first_fault bytes ≡ None → (tree : Nodes) × IsTemplate bytes tree) × ((fault : TemplateFault) → first_fault bytes ≡ Some fault → (tree : Nodes) → IsTemplate bytes tree → ⊥)
+tree_or_fault_by : (bytes : Bytes) (r : Result Nodes TemplateFault) → read_tree bytes ≡ r → (first_fault bytes ≡ None → (tree : Nodes) × IsTemplate bytes tree) × ((fault : TemplateFault) → first_fault bytes ≡ Some fault → (tree : Nodes) → IsTemplate bytes tree → ⊥)
 tree_or_fault_by bytes (Ok tree) e = (λ _. (tree, sound bytes tree e), λ fault f other h. let x : first_fault bytes ≡ None = sym (faults bytes) ∙ ap result_err e in let no : ⊥ = cc in no)
 tree_or_fault_by bytes (Err fault) e = (λ f. let x : first_fault bytes ≡ Some fault = sym (faults bytes) ∙ ap result_err e in absurd (let no : ⊥ = cc in no), λ other f tree h. (faulty bytes fault e).no_tree tree h)
 
 pub tree_or_fault : TreeOrFault
-tree_or_fault bytes = tree_or_fault_by bytes (grown bytes) refl
+tree_or_fault bytes = tree_or_fault_by bytes (read_tree bytes) refl
 
 -- what grows is what reading answers
-pub parsed : (bytes : Bytes) (r : Result Template (Refusal TemplateFault)) → Grows (grown bytes) r → Parses bytes r
+pub parsed : (bytes : Bytes) (r : Result Template (Refusal TemplateFault)) → Grows (read_tree bytes) r → Parses bytes r
 parsed bytes (Ok t) e = only_tree bytes (tree_of t) e
 parsed bytes (Err (Fault fault)) e = faulty bytes fault e
 parsed bytes (Err NoMemory) e = tt
@@ -118,3 +118,10 @@ parsed bytes (Err NoMemory) e = tt
 -- a printable tree is the one tree of its text
 pub again : (bytes : Bytes) (tree : Nodes) → bytes ≡ tree_text tree → IsPrintable tree → IsOnlyTree bytes tree
 again bytes tree e h = only_tree bytes tree (complete bytes tree (let P : Bytes → Type 0 = λ t. IsTemplate t tree in subst P (sym e) (printed tree h)))
+
+fault_of_first : (bytes : Bytes) (fault : TemplateFault) (r : Result Nodes TemplateFault) → read_tree bytes ≡ r → first_fault bytes ≡ Some fault → r ≡ Err fault
+fault_of_first bytes fault (Ok tree) e f = let x : first_fault bytes ≡ None = sym (faults bytes) ∙ ap result_err e in let no : ⊥ = cc in absurd no
+fault_of_first bytes fault (Err other) e f = let x : first_fault bytes ≡ Some other = sym (faults bytes) ∙ ap result_err e in let same : other ≡ fault = cc in ap Err same
+
+pub as_function : AsFunction
+as_function bytes = (complete bytes, sound bytes, λ fault f. fault_of_first bytes fault (read_tree bytes) refl f, λ fault e. (faulty bytes fault e).first)

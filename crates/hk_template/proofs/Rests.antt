@@ -9,7 +9,7 @@ use Rattle.hk_base.specs.declared.refusal.Refusal.TheVariants.{Fault, NoMemory}
 use Rattle.hk_template.specs.Stepping.{Steps, Grows}
 use Rattle.hk_template.specs.Tree.{Nodes}
 use Rattle.hk_template.specs.Cut.{Cuts, cut, cut_on, token_at}
-use Rattle.hk_template.specs.Growing.{Waiting, waits, start, token_step, grown_from, grown_on, grown, finished, flushed}
+use Rattle.hk_template.specs.Growing.{Waiting, waits, start, token_step, grown_from, grown_on, read_tree, finished, flushed}
 use Rattle.hk_template.proofs.Bools.{no_false}
 use Rattle.hk_template.proofs.Cutting.{cut_first, cut_found, cut_none, Stands, StandsIf, token_stands, token_some}
 
@@ -17,8 +17,8 @@ use Rattle.hk_template.proofs.Cutting.{cut_first, cut_found, cut_none, Stands, S
 abbrev pub grown_rest : ℕ → Waiting → Bytes → Result Nodes TemplateFault
 grown_rest p w bytes = grown_from p w (cut bytes).0 (cut bytes).1
 
-pub rest_whole : (bytes : Bytes) → grown_rest 0 (waits [] false start) bytes ≡ grown bytes
-unfolding grown
+pub rest_whole : (bytes : Bytes) → grown_rest 0 (waits [] false start) bytes ≡ read_tree bytes
+unfolding read_tree
 rest_whole bytes = refl
 
 pub rest_none : (p : ℕ) (w : Waiting) → grown_rest p w [] ≡ finished (flushed false w)

@@ -140,5 +140,5 @@ abbrev pub start : State
 start = record { nodes = no_nodes; forms = [] }
 
 -- the tree of a text or its first fault, by its tokens
-unfoldable pub grown : Bytes → Result Nodes TemplateFault
-grown bytes = let c = cut bytes in grown_from 0 (waits [] false start) c.0 c.1
+unfoldable pub read_tree : Bytes → Result Nodes TemplateFault
+read_tree bytes = let c = cut bytes in grown_from 0 (waits [] false start) c.0 c.1

@@ -8,6 +8,7 @@ use Rattle.hk_template.specs.declared.node.Template.{Template}
 use Rattle.hk_template.specs.Tree.{Nodes}
 use Rattle.hk_template.specs.Template.{IsTemplate, IsPrintable, tree_text}
 use Rattle.hk_template.specs.Fault.{first_fault}
+use Rattle.hk_template.specs.Growing.{read_tree}
 use Rattle.hk_template.specs.View.{tree_of}
 
 -- the text's only tree
@@ -39,3 +40,7 @@ ReadsAgain = (tree : Nodes) → IsPrintable tree → IsTemplate (tree_text tree)
 -- a text has a tree, or a fault and no tree
 abbrev pub TreeOrFault : Type 0
 TreeOrFault = (bytes : Bytes) → (first_fault bytes ≡ None → (tree : Nodes) × IsTemplate bytes tree) × ((fault : TemplateFault) → first_fault bytes ≡ Some fault → (tree : Nodes) → IsTemplate bytes tree → ⊥)
+
+-- the grammar as a function: what it gives is the tree or the first fault
+abbrev pub AsFunction : Type 0
+AsFunction = (bytes : Bytes) → ((tree : Nodes) → IsTemplate bytes tree → read_tree bytes ≡ Ok tree) × ((tree : Nodes) → read_tree bytes ≡ Ok tree → IsTemplate bytes tree) × ((fault : TemplateFault) → first_fault bytes ≡ Some fault → read_tree bytes ≡ Err fault) × ((fault : TemplateFault) → read_tree bytes ≡ Err fault → first_fault bytes ≡ Some fault)

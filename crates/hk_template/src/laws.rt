@@ -1,10 +1,11 @@
 // The laws of the grammar.
-ghost use Rattle.hk_template.specs.Parsing.{OneTree, ReadsAgain, TreeOrFault};
+ghost use Rattle.hk_template.specs.Parsing.{AsFunction, OneTree, ReadsAgain, TreeOrFault};
 
-/// A text has at most one tree; it has a tree exactly where it has no first fault; and a printable tree is the tree of
-/// the text that it is printed as.
+/// A text has at most one tree; it has a tree exactly where it has no first fault; the grammar is also a function from
+/// texts to trees or first faults; and a printable tree is the tree of the text that it is printed as. Does nothing.
 pub fn grammar_laws()
     ensures one_tree { OneTree }
     ensures tree_or_fault { TreeOrFault }
+    ensures as_function { AsFunction }
     ensures reads_again { ReadsAgain }
 {}

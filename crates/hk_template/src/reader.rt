@@ -29,13 +29,14 @@ pub struct Reader<'a> {
 /// `Unclosed` where a form is open at the end of the text. `NoMemory` only for want of memory. Linear.
 #[tactic(auto, using(crate::proofs::Grammar::parsed))]
 pub fn parse(alloc: Global, text: &[u8]) -> Result<Template, Refusal<TemplateFault>>
-    ensures { Parses text.now result }
+    ensures grammar { Parses text.now result }
+    ensures value { Grows (spec.read_tree text.now) result }
 {
     grow(alloc, text)
 }
 
 fn grow(alloc: Global, text: &[u8]) -> Result<Template, Refusal<TemplateFault>>
-    ensures { Grows (spec.grown text.now) result }
+    ensures { Grows (spec.read_tree text.now) result }
 {
     let mut reader = Reader {
         parser: Parser::new(alloc),

@@ -9,3 +9,6 @@ returns-clause-tree_or_fault c = Grammar.tree_or_fault
 
 pub returns-clause-reads_again : goal.returns-clause-reads_again
 returns-clause-reads_again c = Grammar.reads_again
+
+pub returns-clause-as_function : goal.returns-clause-as_function
+returns-clause-as_function c = Grammar.as_function

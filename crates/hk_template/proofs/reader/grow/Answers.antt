@@ -3,7 +3,7 @@ use Rattle.std.proofs.lemmas.Result.{err_from_is_err_and}
 use Rattle.hk_template.specs.declared.fault.TemplateFault.{TemplateFault}
 use Rattle.hk_template.specs.Token.{Token, token_text}
 use Rattle.hk_template.specs.Tree.{Nodes}
-use Rattle.hk_template.specs.Growing.{State, Waiting, grown, waits, token_step}
+use Rattle.hk_template.specs.Growing.{State, Waiting, read_tree, waits, token_step}
 use Rattle.hk_template.specs.Reading.{waiting_view}
 use Rattle.hk_template.specs.Spoken.{token_view}
 use Rattle.hk_template.specs.Stepping.{Grows}
@@ -13,7 +13,7 @@ use Rattle.hk_template.proofs.reader.grow.Goals as goal
 pub loop-rest-init : goal.loop-rest-init
 loop-rest-init c =
     let zero : length c.args.text.now - length c.args.text.now ≡ 0 = omega arith in
-    let P : State → Type 0 = λ st. grown_rest 0 (waits [] false st) c.args.text.now ≡ grown c.args.text.now in
+    let P : State → Type 0 = λ st. grown_rest 0 (waits [] false st) c.args.text.now ≡ read_tree c.args.text.now in
     (omega arith, rw zero (subst P (sym c.new.ensures) (rest_whole c.args.text.now)))
 
 pub returns-in_err-take-in-Some : goal.returns-in_err-take-in-Some
@@ -22,7 +22,7 @@ returns-in_err-take-in-Some c =
     let place : ℕ = length c.args.text.now - length c.loop-rest.rest.now in
     let t : Token = token_view c.in-Some.cut.token in
     let w : Waiting = waiting_view c.loop-rest.reader in
-    rw (p.1, p.2) (refused (token_step place t w) (waiting_view c.take.new.self) (grown c.args.text.now) c.take.result c.in_err-take-in-Some.field-0.0 c.in_err-take-in-Some.was c.take.ensures
+    rw (p.1, p.2) (refused (token_step place t w) (waiting_view c.take.new.self) (read_tree c.args.text.now) c.take.result c.in_err-take-in-Some.field-0.0 c.in_err-take-in-Some.was c.take.ensures
     (λ fault s. sym c.loop-rest.invariant.1 ∙ rest_fault place w c.loop-rest.rest.now t c.in-Some.cut.rest.now fault (sym c.in-Some.ensures) s))
 
 pub loop-rest-smaller : goal.loop-rest-smaller
