@@ -21,6 +21,12 @@ Fated Works r = ¬ (IsErrOf r Failed)
 Fated Fails r = IsErrOf r Failed
 Fated (Tears count) r = IsErr r
 
+-- a call that writes nothing fails and does nothing, whatever it was to leave
+abbrev pub untorn : Fate → Fate
+untorn Works = Works
+untorn Fails = Fails
+untorn (Tears count) = Fails
+
 abbrev pub is_failed : {A : Type 0} → Result A TreeFault → Bool
 is_failed (Ok value) = false
 is_failed (Err Failed) = true

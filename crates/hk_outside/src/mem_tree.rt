@@ -3,7 +3,7 @@ ghost use Rattle.std.specs.Prelude.{◌≡◌, IfOk, is_ok, option_map, if◌the
 ghost use Rattle.std.specs.FinMap.{empty, get, keys, remove};
 ghost use Rattle.hk_outside.specs.Failing.{failing, fate_of};
 ghost use Rattle.hk_outside.specs.Held.{set_all};
-ghost use Rattle.hk_outside.specs.Mem.{Fated, called, written_by};
+ghost use Rattle.hk_outside.specs.Mem.{Fated, untorn, called, written_by};
 
 use crate::call::{CallKind, Fail};
 use crate::failures::{Failures, Fate};
@@ -75,7 +75,7 @@ impl Tree for MemTree {
 
     /// The paths in order. Copies each path.
     fn list(&mut self, alloc: Global) -> Result<Vec<Text>, TreeFault>
-        ensures fate { Fated (fate_of call.List self.old.failing) result }
+        ensures fate { Fated (untorn (fate_of call.List self.old.failing)) result }
         ensures after { self.new ≡ record { files = self.old.files; failing = called call.List result self.old.failing } }
         ensures each { IfOk result (λ v. v.items ≡ keys self.old.files) }
         ensures same { Some self.new.files ≡ Some self.old.files }
@@ -92,7 +92,7 @@ impl Tree for MemTree {
 
     /// Logarithmic, and a copy of the bytes.
     fn read(&mut self, alloc: Global, path: &[u8]) -> Result<Option<Vec<u8>>, TreeFault>
-        ensures fate { Fated (fate_of call.Read self.old.failing) result }
+        ensures fate { Fated (untorn (fate_of call.Read self.old.failing)) result }
         ensures after { self.new ≡ record { files = self.old.files; failing = called call.Read result self.old.failing } }
         ensures found { IfOk result (λ o. option_map (λ v. v.items) o ≡ get self.old.files path.now) }
         ensures same { Some self.new.files ≡ Some self.old.files }
@@ -133,7 +133,7 @@ impl Tree for MemTree {
 
     /// Logarithmic; takes no memory.
     fn remove(&mut self, _alloc: Global, path: &[u8]) -> Result<(), TreeFault>
-        ensures fate { Fated (fate_of call.Remove self.old.failing) result }
+        ensures fate { Fated (untorn (fate_of call.Remove self.old.failing)) result }
         ensures after { self.new ≡ record { files = (if is_ok result then remove self.old.files path.now else self.old.files); failing = called call.Remove result self.old.failing } }
         ensures changes { Changes (λ m. remove m path.now) path.now (Some self.old.files) (Some self.new.files) result }
         ensures left { HeldOrGone path.now (Some self.old.files) (Some self.new.files) result }
