@@ -5,3 +5,6 @@ mod rewriting;
 mod route;
 
 pub use route::{Route, RouteFault, target};
+
+#[cfg(test)]
+mod tests;
