@@ -31,7 +31,7 @@ pub enum Route {
 }
 
 /// Why a route gives no target.
-#[derive(Debug, Drop)]
+#[derive(Debug, PartialEq, Eq, Drop)]
 pub enum RouteFault {
     /// What the whole route gives is no identifier's path.
     BadTarget { path: Text },

@@ -6,16 +6,26 @@ use sqlite_items::{Boxed, Items};
 use std::alloc::Global;
 use std::test::Fail;
 
-fn text(alloc: Global, bytes: &[u8]) -> Result<Text, Fail> {
-    Ok(Text::from_slice(alloc, bytes)?)
-}
-
 fn html(alloc: Global) -> Result<Route, Fail> {
-    Ok(Route::Extension(text(alloc, b"html")?))
+    Ok(Route::Extension(Text::from_slice(alloc, b"html")?))
 }
 
 fn gsub(alloc: Global, old: &[u8], new: &[u8]) -> Result<Route, Fail> {
-    Ok(Route::Gsub(text(alloc, old)?, text(alloc, new)?))
+    let old = Text::from_slice(alloc, old)?;
+    let new = Text::from_slice(alloc, new)?;
+    Ok(Route::Gsub(old, new))
+}
+
+fn pair(alloc: Global, first: Route, second: Route) -> Result<Items<Route>, Fail> {
+    let mut routes = Items::new(alloc);
+    routes.push(first)?;
+    routes.push(second)?;
+    Ok(routes)
+}
+
+fn without_version(alloc: Global) -> Result<Route, Fail> {
+    let inner = Boxed::new(alloc, Route::Id)?;
+    Ok(Route::When(Pattern::HasNoVersion, inner))
 }
 
 /// The target of a path with a version, of no bytes where the route doesn't apply.
@@ -23,7 +33,7 @@ fn target_of(alloc: Global, route: &Route, path: &[u8]) -> Result<Text, Fail> {
     let id = Identifier::read(alloc, path, Some(b"v"))?;
     match target(alloc, route, &id)? {
         Some(path) => Ok(path),
-        None => text(alloc, b""),
+        None => Ok(Text::from_vec(Vec::new(alloc))),
     }
 }
 
@@ -46,41 +56,45 @@ fn extensions(rt: HostRuntime) -> Result<(), Fail> {
     Ok(())
 }
 
+/// That threads may share it.
+fn shared<T: Send + Sync>(value: &T) -> &T {
+    value
+}
+
 #[test]
-fn nested_routes(rt: HostRuntime) -> Result<(), Fail> {
-    let twice = gsub(rt.alloc(), b"aa", b"b")?;
-    assert_eq!(rt;
-        target_of(rt.alloc(), &twice, b"aaa")?.as_slice(),
-        b"ba".as_slice()
-    );
-    let blog = gsub(rt.alloc(), b"posts/", b"blog/")?;
-    let both = vec![in rt.alloc(); html(rt.alloc())?, blog]?;
-    let both = Route::Compose(Items::from_vec(both));
-    let found = target_of(rt.alloc(), &both, b"posts/a.md")?;
+fn replacements(rt: HostRuntime) -> Result<(), Fail> {
+    let route = gsub(rt.alloc(), b"aa", b"b")?;
+    let found = target_of(rt.alloc(), shared(&route), b"aaa")?;
+    assert_eq!(rt; found.as_slice(), b"ba".as_slice());
+    Ok(())
+}
+
+#[test]
+fn compositions(rt: HostRuntime) -> Result<(), Fail> {
+    let routes = pair(
+        rt.alloc(),
+        html(rt.alloc())?,
+        gsub(rt.alloc(), b"posts/", b"blog/")?,
+    )?;
+    let found = target_of(rt.alloc(), &Route::Compose(routes), b"posts/a.md")?;
     assert_eq!(rt; found.as_slice(), b"blog/a.html".as_slice());
-    let never = Route::When(Pattern::HasNoVersion, Boxed::new(rt.alloc(), Route::Id)?);
-    assert_eq!(rt;
-        target_of(rt.alloc(), &never, b"a")?.as_slice(),
-        b"".as_slice()
-    );
-    let first = vec![in rt.alloc(); never, Route::Id, both]?;
-    let first = Route::First(Items::from_vec(first));
-    assert_eq!(rt;
-        target_of(rt.alloc(), &first, b"a")?.as_slice(),
-        b"a".as_slice()
-    );
+    Ok(())
+}
+
+#[test]
+fn firsts(rt: HostRuntime) -> Result<(), Fail> {
+    let routes = pair(rt.alloc(), without_version(rt.alloc())?, html(rt.alloc())?)?;
+    let found = target_of(rt.alloc(), &Route::First(routes), b"a")?;
+    assert_eq!(rt; found.as_slice(), b"a.html".as_slice());
     Ok(())
 }
 
 #[test]
 fn bad_targets(rt: HostRuntime) -> Result<(), Fail> {
     let id = Identifier::read(rt.alloc(), b"a", None)?;
-    let route = Route::Constant(text(rt.alloc(), b"../x")?);
-    match target(rt.alloc(), &route, &id) {
-        Err(Refusal::Fault(RouteFault::BadTarget { path })) => {
-            assert_eq!(rt; path.as_slice(), b"../x".as_slice());
-        }
-        _ => assert!(rt; false),
-    }
+    let route = Route::Constant(Text::from_slice(rt.alloc(), b"../x")?);
+    let path = Text::from_slice(rt.alloc(), b"../x")?;
+    let fault = target(rt.alloc(), &route, &id).err();
+    assert_eq!(rt; fault, Some(Refusal::Fault(RouteFault::BadTarget { path })));
     Ok(())
 }
