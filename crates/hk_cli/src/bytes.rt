@@ -1,5 +1,6 @@
 // Bytes from a reader, and to a writer.
-ghost use Rattle.std.specs.Prelude.{◌≡◌, IfOk, IfSome, IsErrOf};
+ghost use Rattle.std.specs.Prelude.{◌≡◌, ◌↔◌, IfOk, IfSome, IsErrOf};
+ghost use Rattle.std.specs.IoError.{error_kind};
 ghost use Rattle.std.specs.Io.KnownBytes.{Keeps};
 ghost use Rattle.hk_outside.specs.Sink.{Appends};
 ghost use Rattle.hk_outside.specs.declared.tree.TreeFault.TheVariants.{NoMemory};
@@ -13,7 +14,9 @@ use std::io::{ErrorKind, Read, Write};
 pub const TURNS: u64 = 1 << 40;
 
 /// What an error of the system means for the caller.
-pub fn fault_of(error: &io::Error) -> TreeFault {
+pub fn fault_of(error: &io::Error) -> TreeFault
+    ensures { (result ≡ NoMemory) ↔ (error_kind error.now ≡ ErrorKind.OutOfMemory) }
+{
     if error.kind() == ErrorKind::OutOfMemory {
         TreeFault::NoMemory
     } else {

@@ -4,6 +4,7 @@
 mod bytes;
 mod count;
 mod os_tree;
+mod paths;
 mod std_sink;
 #[cfg(test)]
 mod tests;

@@ -1,9 +1,11 @@
 // A folder of the system as a tree.
-ghost use Rattle.std.specs.Prelude.{◌≡◌};
+ghost use Rattle.std.specs.Prelude.{◌≡◌, ◌↔◌, ◌⊎◌, IsTrue};
+ghost use Rattle.std.specs.IoError.{error_kind};
 
 use crate::bytes::{TURNS, fault_of, read_all, write_all};
 use crate::count::counted;
-use crate::walk::{below, list_files};
+use crate::paths::path_of;
+use crate::walk::list_files;
 use hk_base::Text;
 use hk_outside::{Tree, TreeFault};
 use std::alloc::Global;
@@ -31,16 +33,8 @@ impl<'a, R: Files + AllocGlobal + Clone + Drop> OsTree<'a, R> {
         }
     }
 
-    /// The path of the system for a path of the tree. One that is not UTF-8 is a fault.
-    fn path_of(&self, alloc: Global, path: &[u8]) -> Result<String, TreeFault> {
-        match str::from_utf8(path) {
-            Ok(path) => below(alloc, self.root.as_str(), path),
-            Err(_) => Err(TreeFault::Failed),
-        }
-    }
-
     fn try_read(&self, alloc: Global, path: &[u8]) -> Result<Option<Vec<u8>>, TreeFault> {
-        let whole = self.path_of(alloc, path)?;
+        let whole = path_of(alloc, self.root.as_str(), path)?;
         match fs::open(self.rt, whole.as_str()) {
             Ok(mut file) => Ok(Some(read_all(alloc, &mut file)?)),
             Err(error) if is_absent(&error) => Ok(None),
@@ -49,13 +43,13 @@ impl<'a, R: Files + AllocGlobal + Clone + Drop> OsTree<'a, R> {
     }
 
     fn try_write(&self, alloc: Global, path: &[u8], bytes: &[u8]) -> Result<(), TreeFault> {
-        let whole = self.path_of(alloc, path)?;
+        let whole = path_of(alloc, self.root.as_str(), path)?;
         let mut file = create(self.rt, whole.as_str())?;
         write_all(&mut file, bytes)
     }
 
     fn try_remove(&self, alloc: Global, path: &[u8]) -> Result<(), TreeFault> {
-        let whole = self.path_of(alloc, path)?;
+        let whole = path_of(alloc, self.root.as_str(), path)?;
         match fs::remove_file(self.rt, whole.as_str()) {
             Ok(()) => {}
             Err(error) if is_absent(&error) => {}
@@ -102,7 +96,9 @@ impl<'a, R: Files + AllocGlobal + Clone + Drop> Tree for OsTree<'a, R> {
 }
 
 /// Whether there is no file at a path: nothing stands there, or a part above is no folder.
-fn is_absent(error: &io::Error) -> bool {
+fn is_absent(error: &io::Error) -> bool
+    ensures { IsTrue result ↔ ((error_kind error.now ≡ ErrorKind.NotFound) ⊎ (error_kind error.now ≡ ErrorKind.NotADirectory)) }
+{
     error.kind() == ErrorKind::NotFound || error.kind() == ErrorKind::NotADirectory
 }
 

@@ -1,8 +1,6 @@
 // The regular files of a folder of the system.
-ghost use Rattle.std.specs.Prelude.{◌≡◌, IfOk, string_bytes};
-ghost use Rattle.hk_cli.specs.Paths.{path_below};
-
 use crate::bytes::{TURNS, fault_of};
+use crate::paths::below;
 use hk_base::Text;
 use hk_outside::TreeFault;
 use std::alloc::Global;
@@ -100,16 +98,4 @@ fn note<R: Files>(
         walk.found.push(Text::from_vec(path.into_bytes()))?;
     }
     Ok(())
-}
-
-/// The path of a name in a folder; in the empty path it is the name itself, and the empty name is the folder itself.
-pub fn below(alloc: Global, folder: &str, name: &str) -> Result<String, TreeFault>
-    ensures { IfOk result (λ path. string_bytes path ≡ path_below folder.now name.now) }
-{
-    let mut path = String::from_str(alloc, folder)?;
-    if !folder.is_empty() && !name.is_empty() {
-        path.push_str("/")?;
-    }
-    path.push_str(name)?;
-    Ok(path)
 }
