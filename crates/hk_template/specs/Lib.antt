@@ -3,12 +3,10 @@ pub mod Fault
 pub mod Growing
 pub mod Key
 pub mod Parsing
+pub mod Place
+pub mod Stepping
 pub mod Template
 pub mod Token
-pub mod Tokens
 pub mod Tree
-pub mod Reading
-pub mod Spoken
-pub mod Standing
-pub mod Stepping
 pub mod View
+pub mod Views

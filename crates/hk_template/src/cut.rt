@@ -1,10 +1,9 @@
 // Cuts a text into tokens from the left.
-ghost use Rattle.std.specs.Prelude.{◌≡◌, ◌+◌, ◌-◌, ◌≤◌, ◌<◌, ℕ, ◌∷◌, [], length, drop, option_map, option_copied, MatchOption, None, Some, IfSome, position, ◌==◌, codes};
+ghost use Rattle.std.specs.Prelude.{◌≡◌, ◌≤◌, ◌<◌, ◌∷◌, [], length, option_map, option_copied, IfSome, position, ◌==◌, codes};
 ghost use Rattle.hk_template.specs.Key as keys;
 ghost use Rattle.hk_template.specs.Cut as spec;
 ghost use Rattle.hk_template.specs.Token.{if_, for_, partial};
-ghost use Rattle.hk_template.specs.Spoken.{word_view, token_view};
-ghost use Rattle.hk_template.specs.Tokens.{cut_view};
+ghost use Rattle.hk_template.specs.Views.{cut_view, token_view, word_view};
 
 use crate::key::{is_bare_key, is_key, is_partial_path};
 use crate::token::{Token, Word};

@@ -1,5 +1,5 @@
 // What the parser holds: the nodes so far and the forms that are open.
-ghost use Rattle.std.specs.Prelude.{◌≡◌, ◌∷◌, [], OnOk, Ok, Err};
+ghost use Rattle.std.specs.Prelude.{◌≡◌, OnOk};
 ghost use Rattle.hk_template.specs.Tree.{node, no_nodes, joined};
 ghost use Rattle.hk_template.specs.View.{node_view, nodes_view};
 

@@ -5,19 +5,25 @@ use hk_base::Text;
 #[derive(Drop)]
 #[cycle(tree)]
 pub enum Node {
+    /// Bytes that stand for themselves.
     Text(Text),
+    /// `$$`: one dollar sign.
     Dollar,
+    /// `$key$`: the text of a key.
     Key(Text),
+    /// `$if(key)$`, up to its `$endif$`. `no` is what stands after an `$else$`.
     If {
         key: Text,
         yes: Vec<Node>,
         no: Option<Vec<Node>>,
     },
+    /// `$for(key)$`, up to its `$endfor$`. `sep` is what stands after a `$sep$`.
     For {
         key: Text,
         each: Vec<Node>,
         sep: Option<Vec<Node>>,
     },
+    /// `$partial("path")$`: another template.
     Partial(Text),
 }
 

@@ -1,10 +1,9 @@
 // Builds a tree of the words of tags, with a stack of the forms that are open.
-ghost use Rattle.std.specs.Prelude.{◌≡◌, ◌∷◌, [], length, OnOk, Ok, MatchOption};
-ghost use Rattle.hk_template.specs.Tree.{node, no_nodes, joined, key_node, partial_node, if_else_node, for_sep_node};
+ghost use Rattle.std.specs.Prelude.{◌≡◌, ◌∷◌, [], OnOk, Ok, MatchOption};
+ghost use Rattle.hk_template.specs.Tree.{key_node, partial_node, if_else_node, for_sep_node};
 ghost use Rattle.hk_template.specs.View.{node_view, nodes_view};
 ghost use Rattle.hk_template.specs.Growing as spec;
-ghost use Rattle.hk_template.specs.Standing.{frame_view, forms_view, state_view, head_view};
-ghost use Rattle.hk_template.specs.Spoken.{word_view};
+ghost use Rattle.hk_template.specs.Views.{forms_view, frame_view, state_view, word_view};
 ghost use Rattle.hk_template.specs.Stepping.{Steps};
 
 use crate::fault::TemplateFault;

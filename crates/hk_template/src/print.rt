@@ -26,15 +26,9 @@ fn print_node(out: &mut Vec<u8>, node: &Node) -> Result<(), NoMemory>
     match node {
         Node::Text(bytes) => out.extend_from_slice(bytes.as_slice())?,
         Node::Dollar => out.extend_from_slice(b"$$")?,
-        Node::Key(key) => {
-            out.extend_from_slice(b"$")?;
-            out.extend_from_slice(key.as_slice())?;
-            out.extend_from_slice(b"$")?;
-        }
+        Node::Key(key) => append(out, b"$", key.as_slice(), b"$")?,
         Node::If { key, yes, no } => {
-            out.extend_from_slice(b"$if(")?;
-            out.extend_from_slice(key.as_slice())?;
-            out.extend_from_slice(b")$")?;
+            append(out, b"$if(", key.as_slice(), b")$")?;
             print_nodes(out, yes.as_slice())?;
             if let Some(no) = no {
                 out.extend_from_slice(b"$else$")?;
@@ -43,9 +37,7 @@ fn print_node(out: &mut Vec<u8>, node: &Node) -> Result<(), NoMemory>
             out.extend_from_slice(b"$endif$")?;
         }
         Node::For { key, each, sep } => {
-            out.extend_from_slice(b"$for(")?;
-            out.extend_from_slice(key.as_slice())?;
-            out.extend_from_slice(b")$")?;
+            append(out, b"$for(", key.as_slice(), b")$")?;
             print_nodes(out, each.as_slice())?;
             if let Some(sep) = sep {
                 out.extend_from_slice(b"$sep$")?;
@@ -53,11 +45,7 @@ fn print_node(out: &mut Vec<u8>, node: &Node) -> Result<(), NoMemory>
             }
             out.extend_from_slice(b"$endfor$")?;
         }
-        Node::Partial(path) => {
-            out.extend_from_slice(b"$partial(\"")?;
-            out.extend_from_slice(path.as_slice())?;
-            out.extend_from_slice(b"\")$")?;
-        }
+        Node::Partial(path) => append(out, b"$partial(\"", path.as_slice(), b"\")$")?,
     }
     Ok(())
 }
@@ -69,5 +57,14 @@ fn print_nodes(out: &mut Vec<u8>, nodes: &[Node]) -> Result<(), NoMemory>
     for node in nodes {
         print_node(out, node)?;
     }
+    Ok(())
+}
+
+fn append(out: &mut Vec<u8>, front: &[u8], middle: &[u8], end: &[u8]) -> Result<(), NoMemory>
+    ensures { OnOk result (out.new.items ≡ out.old.items ++ (front.now ++ (middle.now ++ end.now))) }
+{
+    out.extend_from_slice(front)?;
+    out.extend_from_slice(middle)?;
+    out.extend_from_slice(end)?;
     Ok(())
 }

@@ -1,11 +1,9 @@
 // Reads a template in one pass over its text.
-ghost use Rattle.std.specs.Prelude.{◌≡◌, Ok, OnOk, [], false};
+ghost use Rattle.std.specs.Prelude.{◌≡◌, OnOk, [], false};
 ghost use Rattle.hk_template.specs.Growing as spec;
 ghost use Rattle.hk_template.specs.Parsing.{Parses};
 ghost use Rattle.hk_template.specs.Stepping.{Steps, Grows};
-ghost use Rattle.hk_template.specs.Standing.{state_view, frame_view};
-ghost use Rattle.hk_template.specs.Spoken.{token_view};
-ghost use Rattle.hk_template.specs.Reading.{waiting_view};
+ghost use Rattle.hk_template.specs.Views.{frame_view, state_view, token_view, waiting_view};
 
 use crate::cut::token_at;
 use crate::fault::TemplateFault;

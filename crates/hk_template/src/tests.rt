@@ -80,14 +80,18 @@ fn at_most_64_forms_are_open(rt: HostRuntime) -> Result<(), Fail> {
     deep.extend_from_slice(repeated(alloc, 64, b"$endif$")?.as_slice())?;
     assert_eq!(rt; printed(alloc, &deep)?.as_slice(), deep.as_slice());
     let deeper = repeated(alloc, 65, b"$if(k)$")?;
-    let too_deep = Refusal::Fault(TemplateFault::TooDeep { place: 448 });
-    assert_eq!(rt; fault(alloc, &deeper), Some(too_deep));
+    let too_deep = TemplateFault::TooDeep { place: 448 };
+    assert_eq!(rt; too_deep.place(), 448);
+    assert_eq!(rt; fault(alloc, &deeper), Some(Refusal::Fault(too_deep)));
     Ok(())
 }
+
+fn shared<T: Send + Sync>(_value: &T) {}
 
 #[test]
 fn nodes_are_walked_in_order(rt: HostRuntime) -> Result<(), Fail> {
     let tree = parse(rt.alloc(), b"a$k$$$")?;
+    shared(&tree);
     assert_eq!(rt; tree.nodes.len(), 3);
     assert!(rt; matches!(&tree.nodes[1], Node::Key(key) if key.as_slice() == b"k".as_slice()));
     Ok(())

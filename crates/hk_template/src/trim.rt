@@ -1,5 +1,5 @@
 // Trims blanks at the ends of texts.
-ghost use Rattle.std.specs.Prelude.{◌≡◌, position, not};
+ghost use Rattle.std.specs.Prelude.{◌≡◌};
 ghost use Rattle.hk_template.specs.Tree as spec;
 
 /// The text without the blanks at its beginning, where `wanted`. Linear in those blanks.
