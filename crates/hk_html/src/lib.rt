@@ -1,0 +1,9 @@
+//! HTML: tags and the links in them, teasers, URLs.
+#![tactic(auto)]
+
+mod place;
+mod teasers;
+mod url;
+
+pub use teasers::teaser;
+pub use url::url_of;
