@@ -2,6 +2,7 @@ pub mod Kind
 pub mod Part
 pub mod Piece
 pub mod Place
+pub mod Read
 pub mod Relative
 pub mod Root
 pub mod Teasers

@@ -1,5 +1,5 @@
 // Kinds of bytes and runs of them.
-ghost use Rattle.std.specs.Prelude.{◌≡◌, ◌≤◌, length};
+ghost use Rattle.std.specs.Prelude.{◌≡◌, ◌<◌, ◌≤◌, length};
 ghost use Rattle.std.specs.List.{prefix_len};
 ghost use Rattle.std.specs.Str.{str_eq_ignore_ascii_case};
 ghost use Rattle.hk_html.specs.Kind as spec;
@@ -71,7 +71,8 @@ pub fn quoted_len(text: &[u8], quote: u8) -> usize
 
 /// The first byte, or NUL of no bytes.
 pub fn first(text: &[u8]) -> u8
-    ensures { result ≡ spec.first text.now }
+    ensures value { result ≡ spec.first text.now }
+    ensures there { 0 < result → 0 < length text.now }
 {
     if text.is_empty() { 0 } else { text[0] }
 }

@@ -1,6 +1,7 @@
 //! HTML: tags and the links in them, teasers, URLs.
 #![tactic(auto)]
 
+mod attribute;
 mod kind;
 mod place;
 mod teasers;
