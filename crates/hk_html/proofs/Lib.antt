@@ -1,3 +1,5 @@
 pub mod PlaceLemmas
 pub mod UrlLemmas
 pub mod RunLemmas
+pub mod SliceLemmas
+pub mod ScanLemmas

@@ -5,5 +5,6 @@ pub mod Place
 pub mod Read
 pub mod Relative
 pub mod Root
+pub mod Scan
 pub mod Teasers
 pub mod Url

@@ -4,6 +4,7 @@
 mod attribute;
 mod kind;
 mod place;
+mod scan;
 mod teasers;
 mod url;
 

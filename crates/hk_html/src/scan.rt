@@ -1,0 +1,64 @@
+// Going over an HTML text from the left, and keeping the links in it.
+ghost use Rattle.std.specs.Prelude.{◌≤◌, length};
+
+use crate::attribute::{Attribute, read_attribute};
+use crate::kind::{first, is_same_name, is_white};
+use crate::place::rest_of;
+use hk_base::NoMemory;
+use std::alloc::Global;
+
+/// The value of an attribute that holds a URL, and what stands before it since the link before.
+#[derive(Clone, Copy, Drop)]
+pub struct Link<'a> {
+    pub before: &'a [u8],
+    pub value: &'a [u8],
+}
+
+/// What was read of a text: its links, and where the bytes after the last of them begin and end.
+#[derive(Drop)]
+pub struct Scan<'a> {
+    pub body: &'a [u8],
+    pub links: Vec<Link<'a>>,
+    pub from: usize,
+    pub at: usize,
+    ghost ordered: { from ≤ at },
+    ghost inside: { at ≤ length body.now },
+}
+
+impl<'a> Scan<'a> {
+    ghost use Rattle.std.specs.Prelude.{◌≡◌, ◌+◌, ◌<◌, [], ◌∷◌, ◌++◌, take, drop, OnOk};
+    ghost use Rattle.hk_html.specs.Part.{with_root};
+    ghost use Rattle.hk_html.specs.Scan.{Reads, ReadsPart, ahead, part_ahead};
+
+    pub fn new(alloc: Global, body: &'a [u8]) -> Scan<'a>
+        ensures body { result.body.now ≡ body.now }
+        ensures links { result.links.items ≡ [] }
+        ensures from { result.from ≡ 0 }
+        ensures at { result.at ≡ 0 }
+    {
+        Scan { body, links: Vec::new(alloc), from: 0, at: 0 }
+    }
+
+    fn skip(&mut self, count: usize)
+        requires { self.old.at + count ≤ length self.old.body.now }
+        ensures { Reads self.old self.new count (λ root. take count (ahead self.old)) [] }
+    {
+        self.at += count;
+    }
+
+    /// Keeps the value that stands after `before` bytes as a link.
+    fn link(&mut self, before: usize, value: usize) -> Result<(), NoMemory>
+        requires { self.old.at + before + value ≤ length self.old.body.now }
+        ensures { OnOk result (Reads self.old self.new (before + value)
+            (λ root. take before (ahead self.old) ++ with_root root (take value (drop before (ahead self.old))))
+            (take value (drop before (ahead self.old)) ∷ [])) }
+    {
+        let body = self.body;
+        let start = self.at + before;
+        let end = start + value;
+        self.links.push(Link { before: &body[self.from..start], value: &body[start..end] })?;
+        self.from = end;
+        self.at = end;
+        Ok(())
+    }
+}
