@@ -3,3 +3,5 @@ pub mod UrlLemmas
 pub mod RunLemmas
 pub mod SliceLemmas
 pub mod ScanLemmas
+pub mod FrontLemmas
+pub mod ReadsLemmas

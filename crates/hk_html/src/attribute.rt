@@ -1,10 +1,11 @@
 // Reading one attribute of a tag.
-ghost use Rattle.std.specs.Prelude.{◌≡◌, ℕ, ◌+◌, ◌<◌, ◌^◌, List, length, drop};
+ghost use Rattle.std.specs.Prelude.{◌≡◌, ℕ, ◌+◌, ◌<◌, ◌≤◌, ◌^◌, List, length, drop};
 ghost use Rattle.hk_html.specs.Kind as kind;
+ghost use Rattle.hk_html.specs.Part as spec;
 ghost use Rattle.hk_html.specs.Part.{attribute, value_part};
-ghost use Rattle.hk_html.specs.Read.{sizes_of};
+ghost use Rattle.hk_html.specs.Read.{size_of, sizes_of};
 
-use crate::kind::{attribute_name_len, first, quoted_len, value_len, white_len};
+use crate::kind::{attribute_name_len, first, is_same_name, quoted_len, value_len, white_len};
 use crate::place::rest_of;
 
 /// How long an attribute is: one without `=`, with the white after it, or one with a value.
@@ -26,7 +27,8 @@ pub struct Sizes {
 /// Reads the attribute with which the text begins. Linear in the attribute and the white after it.
 pub fn read_attribute(text: &[u8]) -> Attribute
     requires { 0 < length text.now }
-    ensures { result ≡ sizes_of (attribute (kind.first text.now) (drop 1 text.now)) }
+    ensures sizes { result ≡ sizes_of (attribute (kind.first text.now) (drop 1 text.now)) }
+    ensures fits { size_of result ≤ length text.now }
 {
     let rest = rest_of(text, 1);
     let name = attribute_name_len(rest);
@@ -43,9 +45,10 @@ pub fn read_attribute(text: &[u8]) -> Attribute
 
 /// Reads the value with which the text begins, after so many bytes of the attribute.
 fn read_value(name: usize, between: usize, text: &[u8]) -> Attribute
-    requires { between + 1 < 2 ^ 64 }
-    ensures { (before : List ℕ) (sign : List ℕ) → length before ≡ name → length sign ≡ between
+    requires { name + between + length text.now < 2 ^ 64 }
+    ensures sizes { (before : List ℕ) (sign : List ℕ) → length before ≡ name → length sign ≡ between
         → result ≡ sizes_of (value_part before sign text.now) }
+    ensures fits { size_of result ≤ name + between + length text.now }
 {
     let quote = first(text);
     if quote == b'"' || quote == b'\'' {
@@ -57,4 +60,11 @@ fn read_value(name: usize, between: usize, text: &[u8]) -> Attribute
         let value = value_len(text);
         Attribute::Valued(Sizes { name, between, value, close: 0 })
     }
+}
+
+/// Whether an attribute of this name holds a URL.
+pub fn is_link(name: &[u8]) -> bool
+    ensures { result ≡ spec.is_link name.now }
+{
+    is_same_name(name, b"href") || is_same_name(name, b"src")
 }

@@ -1,9 +1,9 @@
 // Going over an HTML text from the left, and keeping the links in it.
 ghost use Rattle.std.specs.Prelude.{◌≤◌, length};
 
-use crate::attribute::{Attribute, read_attribute};
-use crate::kind::{first, is_same_name, is_white};
-use crate::place::rest_of;
+use crate::attribute::{Attribute, Sizes, is_link, read_attribute};
+use crate::kind::{first, is_white};
+use crate::place::{front_of, rest_of};
 use hk_base::NoMemory;
 use std::alloc::Global;
 
@@ -27,7 +27,9 @@ pub struct Scan<'a> {
 
 impl<'a> Scan<'a> {
     ghost use Rattle.std.specs.Prelude.{◌≡◌, ◌+◌, ◌<◌, [], ◌∷◌, ◌++◌, take, drop, OnOk};
-    ghost use Rattle.hk_html.specs.Part.{with_root};
+    ghost use Rattle.hk_base.specs.Bytes.{Bytes};
+    ghost use Rattle.hk_html.specs.Part.{Part, part_text, with_root};
+    ghost use Rattle.hk_html.specs.Read.{sizes_of};
     ghost use Rattle.hk_html.specs.Scan.{Reads, ReadsPart, ahead, part_ahead};
 
     pub fn new(alloc: Global, body: &'a [u8]) -> Scan<'a>
@@ -59,6 +61,40 @@ impl<'a> Scan<'a> {
         self.links.push(Link { before: &body[self.from..start], value: &body[start..end] })?;
         self.from = end;
         self.at = end;
+        Ok(())
+    }
+
+    /// Reads an attribute with a value, which comes next.
+    fn valued(&mut self, sizes: Sizes) -> Result<(), NoMemory>
+        requires { self.old.at + sizes.name + sizes.between + sizes.value + sizes.close ≤ length self.old.body.now }
+        ensures { OnOk result ((part : Part) (rest : Bytes) → ahead self.old ≡ part_text part ++ rest
+            → Attribute.Valued sizes ≡ sizes_of part → ReadsPart self.old self.new part) }
+    {
+        let rest = rest_of(self.body, self.at);
+        if is_link(front_of(rest, sizes.name)) {
+            self.link(sizes.name + sizes.between, sizes.value)?;
+            self.skip(sizes.close);
+        } else {
+            self.skip(sizes.name + sizes.between + sizes.value + sizes.close);
+        }
+        Ok(())
+    }
+
+    /// Reads the part of a tag that comes next.
+    fn part(&mut self) -> Result<(), NoMemory>
+        requires { self.old.at < length self.old.body.now }
+        ensures { OnOk result (ReadsPart self.old self.new (part_ahead self.old)) }
+    {
+        let rest = rest_of(self.body, self.at);
+        let byte = first(rest);
+        if is_white(byte) || byte == b'/' {
+            self.skip(1);
+            return Ok(());
+        }
+        match read_attribute(rest) {
+            Attribute::Bare(count) => self.skip(count),
+            Attribute::Valued(sizes) => self.valued(sizes)?,
+        }
         Ok(())
     }
 }
