@@ -5,3 +5,4 @@ pub mod SliceLemmas
 pub mod ScanLemmas
 pub mod FrontLemmas
 pub mod ReadsLemmas
+pub mod PartsLemmas

@@ -1,7 +1,7 @@
 -- Neighbouring parts of a text.
-use Rattle.std.proofs.Common.{◌≡◌, ℕ, ◌+◌, ◌-◌, ◌≤◌, List, [], ◌++◌, drop, take, arith, refl, sym, ap, ◌∙◌}
+use Rattle.std.proofs.Common.{◌≡◌, ℕ, ◌+◌, ◌-◌, ◌≤◌, List, [], ◌++◌, drop, take, get_or, arith, refl, sym, ap, ◌∙◌}
 use Rattle.std.specs.List.{slice_range}
-use Rattle.std.proofs.lemmas.List.{drop-drop}
+use Rattle.std.proofs.lemmas.List.{drop-drop, get_or-drop}
 use Rattle.std.proofs.Math.Seq.{take-add}
 
 pub slice_range-add : (xs : List ℕ) (a b n : ℕ) → a ≤ b → slice_range xs a (b + n) ≡ slice_range xs a b ++ take n (drop b xs)
@@ -20,3 +20,8 @@ pub slice_range-from : (xs : List ℕ) (a b n : ℕ) → slice_range xs (a + b) 
 slice_range-from xs a b n =
     let same : (a + b + n) - (a + b) ≡ n = omega arith in
     rw (same, drop-drop b a xs)
+
+pub get_or-ahead : (xs : List ℕ) (at : ℕ) → get_or (drop at xs) 0 0 ≡ get_or xs at 0
+get_or-ahead xs at =
+    let same : at + 0 ≡ at = omega arith in
+    rw same at (get_or-drop at xs 0 0)

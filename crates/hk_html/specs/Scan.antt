@@ -1,11 +1,11 @@
 -- What a scan has read.
-use Rattle.std.specs.Prelude.{◌≡◌, ℕ, ◌+◌, List, [], ◌++◌, map, length, take, drop, slice_range}
+use Rattle.std.specs.Prelude.{◌≡◌, ◌<◌, ℕ, ◌+◌, Bool, true, false, Some, None, List, [], ◌++◌, map, length, take, drop, slice_range}
 use Rattle.std.specs.List.{flat_map}
 use Rattle.hk_base.specs.Bytes.{Bytes}
 use Rattle.hk_html.specs.declared.scan.Link.{Link}
 use Rattle.hk_html.specs.declared.scan.Scan.{Scan}
 use Rattle.hk_html.specs.Kind.{first}
-use Rattle.hk_html.specs.Part.{Part, with_root, first_part, part_text, part_links, part_with_root}
+use Rattle.hk_html.specs.Part.{Part, with_root, first_part, parts_of, part_text, part_links, part_with_root}
 use Rattle.hk_html.specs.Piece.{Piece, first_piece, piece_text, piece_links, piece_with_root}
 
 -- a link, and what stands before it since the link before
@@ -54,3 +54,10 @@ part_ahead scan = first_part (first (ahead scan)) (drop 1 (ahead scan))
 
 abbrev pub piece_ahead : Scan → Piece
 piece_ahead scan = first_piece (first (ahead scan)) (drop 1 (ahead scan))
+
+-- the parts of a tag were read up to the `>` that ends it; or the text ends first, and the links before are kept
+abbrev pub ReadsTag : Scan → Scan → Bool → Type 0
+ReadsTag old new true =
+    (parts : List Part) × (parts_of (ahead old) ≡ Some parts) × ReadsParts old new parts × (0 < length (ahead new)) × (first (ahead new) ≡ 62)
+ReadsTag old new false =
+    (parts_of (ahead old) ≡ None) × (new.body.now ≡ old.body.now) × (take (length old.links.items) new.links.items ≡ old.links.items)

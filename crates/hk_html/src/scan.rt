@@ -26,11 +26,11 @@ pub struct Scan<'a> {
 }
 
 impl<'a> Scan<'a> {
-    ghost use Rattle.std.specs.Prelude.{◌≡◌, ◌+◌, ◌<◌, [], ◌∷◌, ◌++◌, take, drop, OnOk};
+    ghost use Rattle.std.specs.Prelude.{◌≡◌, ◌+◌, ◌<◌, [], ◌∷◌, ◌++◌, take, drop, IfOk, OnOk};
     ghost use Rattle.hk_base.specs.Bytes.{Bytes};
     ghost use Rattle.hk_html.specs.Part.{Part, part_text, with_root};
     ghost use Rattle.hk_html.specs.Read.{sizes_of};
-    ghost use Rattle.hk_html.specs.Scan.{Reads, ReadsPart, ahead, part_ahead};
+    ghost use Rattle.hk_html.specs.Scan.{Reads, ReadsPart, ReadsTag, ahead, part_ahead};
 
     pub fn new(alloc: Global, body: &'a [u8]) -> Scan<'a>
         ensures body { result.body.now ≡ body.now }
@@ -96,5 +96,18 @@ impl<'a> Scan<'a> {
             Attribute::Valued(sizes) => self.valued(sizes)?,
         }
         Ok(())
+    }
+
+    /// Reads the parts of a tag up to the `>` that ends it; `false` where the text ends first.
+    fn parts(&mut self) -> Result<bool, NoMemory>
+        ensures { IfOk result (λ finished. ReadsTag self.old self.new finished) }
+    {
+        while self.at < self.body.len() {
+            if self.body[self.at] == b'>' {
+                return Ok(true);
+            }
+            self.part()?;
+        }
+        Ok(false)
     }
 }
