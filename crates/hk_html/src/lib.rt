@@ -3,6 +3,7 @@
 
 mod attribute;
 mod kind;
+mod piece;
 mod place;
 mod scan;
 mod teasers;
