@@ -6,3 +6,4 @@ pub mod ScanLemmas
 pub mod FrontLemmas
 pub mod ReadsLemmas
 pub mod PartsLemmas
+pub mod PiecesLemmas

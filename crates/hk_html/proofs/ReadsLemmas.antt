@@ -23,7 +23,7 @@ Reads-same other others found reads counts texts values = record {
   kept = reads.kept;
 }
 
-kept_more : {A : Type 0} (a b c : List A) → take (length a) b ≡ a → take (length b) c ≡ b → take (length a) c ≡ a
+pub kept_more : {A : Type 0} (a b c : List A) → take (length a) b ≡ a → take (length b) c ≡ b → take (length a) c ≡ a
 kept_more a b c one two =
     let short : length a ≤ length b = omega (arith, ap length one, length-take (length a) b) in
     sym (take-take (length a) (length b) c short) ∙ rw two one

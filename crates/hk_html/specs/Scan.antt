@@ -4,9 +4,9 @@ use Rattle.std.specs.List.{flat_map}
 use Rattle.hk_base.specs.Bytes.{Bytes}
 use Rattle.hk_html.specs.declared.scan.Link.{Link}
 use Rattle.hk_html.specs.declared.scan.Scan.{Scan}
-use Rattle.hk_html.specs.Kind.{first}
+use Rattle.hk_html.specs.Kind.{first, after_run, is_tag_byte}
 use Rattle.hk_html.specs.Part.{Part, with_root, first_part, parts_of, part_text, part_links, part_with_root}
-use Rattle.hk_html.specs.Piece.{Piece, first_piece, piece_text, piece_links, piece_with_root}
+use Rattle.hk_html.specs.Piece.{Piece, first_piece, tag_by, piece_text, piece_links, piece_with_root}
 
 -- a link, and what stands before it since the link before
 abbrev pub link_with_root : Bytes → Link → Bytes
@@ -61,3 +61,8 @@ ReadsTag old new true =
     (parts : List Part) × (parts_of (ahead old) ≡ Some parts) × ReadsParts old new parts × (0 < length (ahead new)) × (first (ahead new) ≡ 62)
 ReadsTag old new false =
     (parts_of (ahead old) ≡ None) × (new.body.now ≡ old.body.now) × (take (length old.links.items) new.links.items ≡ old.links.items)
+
+-- the piece that begins with the `<` of a tag
+abbrev pub tag_ahead : Scan → Piece
+tag_ahead scan =
+    tag_by (first (ahead scan)) (drop 1 (ahead scan)) (parts_of (after_run is_tag_byte (drop 1 (ahead scan))))

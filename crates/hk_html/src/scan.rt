@@ -2,7 +2,8 @@
 ghost use Rattle.std.specs.Prelude.{◌≤◌, length};
 
 use crate::attribute::{Attribute, Sizes, is_link, read_attribute};
-use crate::kind::{first, is_white};
+use crate::kind::{first, is_white, tag_name_len};
+use crate::piece::{comment_len, raw_len};
 use crate::place::{front_of, rest_of};
 use hk_base::NoMemory;
 use std::alloc::Global;
@@ -30,7 +31,7 @@ impl<'a> Scan<'a> {
     ghost use Rattle.hk_base.specs.Bytes.{Bytes};
     ghost use Rattle.hk_html.specs.Part.{Part, part_text, with_root};
     ghost use Rattle.hk_html.specs.Read.{sizes_of};
-    ghost use Rattle.hk_html.specs.Scan.{Reads, ReadsPart, ReadsTag, ahead, part_ahead};
+    ghost use Rattle.hk_html.specs.Scan.{Reads, ReadsPart, ReadsPiece, ReadsTag, ahead, part_ahead, piece_ahead, tag_ahead};
 
     pub fn new(alloc: Global, body: &'a [u8]) -> Scan<'a>
         ensures body { result.body.now ≡ body.now }
@@ -109,5 +110,57 @@ impl<'a> Scan<'a> {
             self.part()?;
         }
         Ok(false)
+    }
+
+    /// Lets go of the links after the first `kept`, and of the rest of the text.
+    fn give_up(&mut self, kept: usize, from: usize)
+        requires { from ≤ length self.old.body.now }
+        ensures body { self.new.body.now ≡ self.old.body.now }
+        ensures links { self.new.links.items ≡ take kept self.old.links.items }
+        ensures from { self.new.from ≡ from }
+        ensures at { self.new.at ≡ length self.old.body.now }
+    {
+        self.links.truncate(kept);
+        self.at = self.body.len();
+        self.from = from;
+    }
+
+    /// Reads the tag that comes next and the raw text after it, or all where the tag has no end.
+    fn tag(&mut self) -> Result<(), NoMemory>
+        requires { self.old.at < length self.old.body.now }
+        ensures { OnOk result (ReadsPiece self.old self.new (tag_ahead self.old)) }
+    {
+        let kept = self.links.len();
+        let from = self.from;
+        let body = self.body;
+        let rest = rest_of(body, self.at + 1);
+        let name = front_of(rest, tag_name_len(rest));
+        self.skip(1 + name.len());
+        if self.parts()? {
+            self.skip(1);
+            let raw = raw_len(rest_of(body, self.at), name);
+            self.skip(raw);
+        } else {
+            self.give_up(kept, from);
+        }
+        Ok(())
+    }
+
+    /// Reads the piece that comes next.
+    fn piece(&mut self) -> Result<(), NoMemory>
+        requires { self.old.at < length self.old.body.now }
+        ensures { OnOk result (ReadsPiece self.old self.new (piece_ahead self.old)) }
+    {
+        let rest = rest_of(self.body, self.at);
+        if rest.starts_with(b"<!--") {
+            self.skip(comment_len(rest));
+            return Ok(());
+        }
+        if first(rest) == b'<' && first(rest_of(rest, 1)).is_ascii_alphabetic() {
+            self.tag()?;
+            return Ok(());
+        }
+        self.skip(1);
+        Ok(())
     }
 }
