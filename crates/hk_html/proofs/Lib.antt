@@ -7,3 +7,4 @@ pub mod FrontLemmas
 pub mod ReadsLemmas
 pub mod PartsLemmas
 pub mod PiecesLemmas
+pub mod WholeLemmas

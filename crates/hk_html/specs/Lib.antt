@@ -1,4 +1,5 @@
 pub mod Kind
+pub mod Links
 pub mod Part
 pub mod Piece
 pub mod Place

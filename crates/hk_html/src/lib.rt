@@ -3,8 +3,10 @@
 
 mod attribute;
 mod kind;
+mod links;
 mod piece;
 mod place;
+mod root;
 mod scan;
 mod teasers;
 mod url;

@@ -147,7 +147,7 @@ impl<'a> Scan<'a> {
     }
 
     /// Reads the piece that comes next.
-    fn piece(&mut self) -> Result<(), NoMemory>
+    pub fn piece(&mut self) -> Result<(), NoMemory>
         requires { self.old.at < length self.old.body.now }
         ensures { OnOk result (ReadsPiece self.old self.new (piece_ahead self.old)) }
     {
