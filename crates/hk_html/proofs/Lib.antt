@@ -8,3 +8,4 @@ pub mod ReadsLemmas
 pub mod PartsLemmas
 pub mod PiecesLemmas
 pub mod WholeLemmas
+pub mod RootLemmas

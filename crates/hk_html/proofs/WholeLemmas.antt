@@ -2,11 +2,11 @@
 use Rattle.std.proofs.Common.{◌≡◌, ℕ, zero, suc, ◌+◌, ◌-◌, ◌<◌, ◌≤◌, Bool, true, false, cond, ◌||◌, ◌&&◌, ◌==◌, nat_eq, codes, List, [], ◌∷◌, ◌++◌, Option, Some, None, length, drop, take, arith, refl, sym, ap, ◌∙◌, append_assoc}
 use Rattle.std.specs.List.{flat_map, take_while, starts_with, slice_range}
 use Rattle.std.specs.Char.{is_ascii_alphabetic}
-use Rattle.std.proofs.lemmas.List.{append-nil, drop_all, drop-drop, flat_map_more, length-append}
+use Rattle.std.proofs.lemmas.List.{append-nil, drop_all, drop-drop, flat_map_more, length-append, take_rest}
 use Rattle.hk_base.specs.Bytes.{Bytes}
 use Rattle.hk_html.specs.declared.scan.Scan.{Scan}
 use Rattle.hk_html.specs.Kind.{first, after_run, is_tag_byte}
-use Rattle.hk_html.specs.Links.{ReadsAll}
+use Rattle.hk_html.specs.Found.{ReadsAll}
 use Rattle.hk_html.specs.Part.{Part, parts_of, parts_text}
 use Rattle.hk_html.specs.Piece.{Piece, comment, tag, unfinished, other, first_piece, tag_by, piece_text, piece_links, piece_with_root, pieces, pieces_after, raw_text}
 use Rattle.hk_html.specs.Place.{place_of_word}
@@ -79,3 +79,8 @@ ReadsAll-end body now so_far past =
       relative = λ root. sym (append-nil (written root now)) ∙ rw nothing at (so_far.text root);
       found = sym (append-nil (link_values now.links.items)) ∙ rw nothing at so_far.found;
     }
+
+-- the links, and what stands after the last of them
+pub ReadsAll-text : (body : Bytes) (scan : Scan) (root : Bytes) → ReadsAll body scan → links_with_root root scan.links.items ++ drop scan.from body ≡ with_roots root body
+ReadsAll-text body scan root all =
+    rw (all.same, all.whole, take_rest body scan.from) at (all.relative root)

@@ -1,5 +1,5 @@
 pub mod Kind
-pub mod Links
+pub mod Found
 pub mod Part
 pub mod Piece
 pub mod Place

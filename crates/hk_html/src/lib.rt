@@ -3,13 +3,15 @@
 
 mod attribute;
 mod kind;
-mod links;
+mod found;
 mod piece;
 mod place;
+mod relative;
 mod root;
 mod scan;
 mod teasers;
 mod url;
 
+pub use relative::{links, relativize};
 pub use teasers::teaser;
 pub use url::url_of;

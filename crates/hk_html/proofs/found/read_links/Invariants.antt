@@ -1,6 +1,6 @@
 use Rattle.std.proofs.Common.{length, ◌-◌}
 use Rattle.hk_html.proofs.WholeLemmas.{PiecesRead}
-use Rattle.hk_html.proofs.links.read_links.Given as goal
+use Rattle.hk_html.proofs.found.read_links.Given as goal
 
 abbrev pub invariant-loop-scan : goal.invariant-loop-scan
 invariant-loop-scan l = PiecesRead l.fn.body l.scan

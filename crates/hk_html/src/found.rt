@@ -1,6 +1,6 @@
 // The links of a whole HTML text.
 ghost use Rattle.std.specs.Prelude.{◌≡◌, IfOk};
-ghost use Rattle.hk_html.specs.Links.{ReadsAll};
+ghost use Rattle.hk_html.specs.Found.{ReadsAll};
 
 use crate::scan::Scan;
 use hk_base::NoMemory;

@@ -1,0 +1,71 @@
+// A text with its root URLs made relative, and the URLs in it.
+ghost use Rattle.std.specs.Prelude.{◌≡◌, ◌++◌, IfOk, OnOk};
+ghost use Rattle.hk_html.specs.Part as part;
+ghost use Rattle.hk_html.specs.Relative.{links_of, with_roots};
+ghost use Rattle.hk_html.specs.Root as spec;
+ghost use Rattle.hk_html.specs.Scan.{links_with_root};
+
+use crate::found::read_links;
+use crate::place::rest_of;
+use crate::root::root_of;
+use crate::scan::Link;
+use hk_base::{NoMemory, Text};
+use std::alloc::Global;
+
+/// The HTML text of a page with this target, with the way up to the root before each URL that begins with `/` and not
+/// with `//` in an attribute `href` or `src`. All other bytes stay, and all bytes of comments, raw text and tags without
+/// an end. `NoMemory` only for want of memory. Linear.
+pub fn relativize(alloc: Global, body: &[u8], target: &[u8]) -> Result<Text, NoMemory>
+    ensures { IfOk result (λ text. text ≡ with_roots (spec.root_of target.now) body.now) }
+{
+    let root = root_of(alloc, target)?;
+    let scan = read_links(alloc, body)?;
+    let room = rooted_count(&scan.links).saturating_mul(root.len());
+    let mut text = Vec::with_capacity(alloc, body.len().saturating_add(room))?;
+    push_links(&mut text, &root, &scan.links)?;
+    text.extend_from_slice(rest_of(body, scan.from))?;
+    Ok(Text::from_vec(text))
+}
+
+/// The values of `href` and `src` in the finished tags of an HTML text, in order. `NoMemory` only for want of memory.
+/// Linear.
+pub fn links(alloc: Global, body: &[u8]) -> Result<Vec<Text>, NoMemory>
+    ensures { IfOk result (λ found. found.items ≡ links_of body.now) }
+{
+    let scan = read_links(alloc, body)?;
+    let mut found = Vec::with_capacity(alloc, scan.links.len())?;
+    for link in &scan.links {
+        found.push(Text::from_slice(alloc, link.value)?)?;
+    }
+    Ok(found)
+}
+
+fn push_links(text: &mut Vec<u8>, root: &[u8], links: &[Link<'_>]) -> Result<(), NoMemory>
+    ensures { OnOk result (text.new.items ≡ text.old.items ++ links_with_root root.now links.now) }
+{
+    for link in links {
+        push_link(text, root, link.before, link.value)?;
+    }
+    Ok(())
+}
+
+fn push_link(text: &mut Vec<u8>, root: &[u8], before: &[u8], url: &[u8]) -> Result<(), NoMemory>
+    ensures { OnOk result (text.new.items ≡ text.old.items ++ (before.now ++ part.with_root root.now url.now)) }
+{
+    text.extend_from_slice(before)?;
+    if is_rooted(url) {
+        text.extend_from_slice(root)?;
+    }
+    text.extend_from_slice(url)?;
+    Ok(())
+}
+
+fn is_rooted(url: &[u8]) -> bool
+    ensures { result ≡ part.is_rooted url.now }
+{
+    url.starts_with(b"/") && !url.starts_with(b"//")
+}
+
+fn rooted_count(links: &[Link<'_>]) -> usize {
+    links.iter().filter(|link| is_rooted(link.value)).count()
+}
