@@ -9,3 +9,4 @@ pub mod PartsLemmas
 pub mod PiecesLemmas
 pub mod WholeLemmas
 pub mod RootLemmas
+pub mod JoinLemmas

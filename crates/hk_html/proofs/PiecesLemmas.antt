@@ -42,7 +42,7 @@ ReadsPiece-rest old new order inside body links from at =
 take_length_take : (k : ℕ) (text : Bytes) → take (length (take k text)) text ≡ take k text
 take_length_take k text = rw (length-take k text) (take_min k text)
 
-raw_text-front : (name text : Bytes) → take (length (raw_text name text)) text ≡ raw_text name text
+pub raw_text-front : (name text : Bytes) → take (length (raw_text name text)) text ≡ raw_text name text
 raw_text-front name text =
     elim (has_raw_text name) as (λ b. let raw = cond b (take (place_of (ends_raw_text name) text) text) [] in take (length raw) text ≡ raw) [
       true ↦ take_length_take (place_of (ends_raw_text name) text) text

@@ -1,6 +1,8 @@
 // A text with its root URLs made relative, and the URLs in it.
-ghost use Rattle.std.specs.Prelude.{◌≡◌, ◌++◌, IfOk, OnOk};
+ghost use Rattle.std.specs.Prelude.{◌≡◌, false, ◌++◌, IfOk, OnOk};
+ghost use Rattle.std.specs.List.{flat_map, list_any};
 ghost use Rattle.hk_html.specs.Part as part;
+ghost use Rattle.hk_html.specs.Piece.{piece_text, pieces};
 ghost use Rattle.hk_html.specs.Relative.{links_of, with_roots};
 ghost use Rattle.hk_html.specs.Root as spec;
 ghost use Rattle.hk_html.specs.Scan.{links_with_root};
@@ -16,7 +18,9 @@ use std::alloc::Global;
 /// with `//` in an attribute `href` or `src`. All other bytes stay, and all bytes of comments, raw text and tags without
 /// an end. `NoMemory` only for want of memory. Linear.
 pub fn relativize(alloc: Global, body: &[u8], target: &[u8]) -> Result<Text, NoMemory>
-    ensures { IfOk result (λ text. text ≡ with_roots (spec.root_of target.now) body.now) }
+    ensures value { IfOk result (λ text. text ≡ with_roots (spec.root_of target.now) body.now) }
+    ensures joined { OnOk result (flat_map piece_text (pieces body.now) ≡ body.now) }
+    ensures unchanged { IfOk result (λ text. list_any part.is_rooted (links_of body.now) ≡ false → text ≡ body.now) }
 {
     let root = root_of(alloc, target)?;
     let scan = read_links(alloc, body)?;
