@@ -15,11 +15,11 @@ pub record BeginsWith (text front : Bytes) : Type 0 where
 pub run_front : (p : ℕ → Bool) (text : Bytes) → text ≡ take_while p text ++ after_run p text
 run_front p text = sym (take-append-drop (prefix_len p text) text)
 
-quoted_front : (name between : Bytes) (q : ℕ) (qs value close rest : Bytes) → qs ≡ value ++ (close ++ rest)
+pub quoted_front : (name between : Bytes) (q : ℕ) (qs value close rest : Bytes) → qs ≡ value ++ (close ++ rest)
     → name ++ (between ++ (q ∷ qs)) ≡ (name ++ ((between ++ (q ∷ [])) ++ (value ++ close))) ++ rest
 quoted_front name between q qs value close rest e = rw e (simp append_assoc)
 
-open_front : (name between text value rest : Bytes) → text ≡ value ++ rest → name ++ (between ++ text) ≡ (name ++ (between ++ (value ++ []))) ++ rest
+pub open_front : (name between text value rest : Bytes) → text ≡ value ++ rest → name ++ (between ++ text) ≡ (name ++ (between ++ (value ++ []))) ++ rest
 open_front name between text value rest e = rw e (simp append_assoc)
 
 value_front : (name between text : Bytes) → BeginsWith (name ++ (between ++ text)) (part_text (value_part name between text))
@@ -36,7 +36,7 @@ value_front name between (q ∷ qs) =
     | false ↦ record { rest = after_run is_value_byte (q ∷ qs); same = open_front name between (q ∷ qs) _ _ (run_front is_value_byte (q ∷ qs)) }
     ]
 
-sign_front : (name white : Bytes) (x : ℕ) (xs gap rest : Bytes) → x ≡ 61 → xs ≡ gap ++ rest
+pub sign_front : (name white : Bytes) (x : ℕ) (xs gap rest : Bytes) → x ≡ 61 → xs ≡ gap ++ rest
     → name ++ (white ++ (x ∷ xs)) ≡ name ++ ((white ++ (61 ∷ gap)) ++ rest)
 sign_front name white x xs gap rest e cut = rw (e, cut) (simp append_assoc)
 

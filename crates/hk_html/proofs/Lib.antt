@@ -10,3 +10,4 @@ pub mod PiecesLemmas
 pub mod WholeLemmas
 pub mod RootLemmas
 pub mod JoinLemmas
+pub mod AgainLemmas
