@@ -21,14 +21,14 @@ use Rattle.hk_html.proofs.WholeLemmas.{pieces-cons, first_piece-some}
 pub front_drop : {text front : Bytes} → BeginsWith text front → text ≡ front ++ drop (length front) text
 front_drop {text} {front} begins = begins.same ∙ ap (λ rest. front ++ rest) (sym (rw begins.same (drop-append_seam front begins.rest)))
 
-one_before : (o : Option (List Part)) (part : Part) (parts : List Part) → option_map (λ more. part ∷ more) o ≡ Some parts → (more : List Part) × (o ≡ Some more) × (parts ≡ part ∷ more)
+pub one_before : (o : Option (List Part)) (part : Part) (parts : List Part) → option_map (λ more. part ∷ more) o ≡ Some parts → (more : List Part) × (o ≡ Some more) × (parts ≡ part ∷ more)
 one_before None part parts e = cc
 one_before (Some more) part parts e = (more, refl, cc)
 
 joined_front : (text part more rest : Bytes) → text ≡ part ++ ((more ++ (62 ∷ [])) ++ rest) → text ≡ ((part ++ more) ++ (62 ∷ [])) ++ rest
 joined_front text part more rest e = e ∙ simp append_assoc
 
-shorter : (text : Bytes) (count fuel : ℕ) → length text ≤ suc fuel → 0 < count → length (drop count text) ≤ fuel
+pub shorter : (text : Bytes) (count fuel : ℕ) → length text ≤ suc fuel → 0 < count → length (drop count text) ≤ fuel
 shorter text count fuel short some = omega (arith, length-drop count text)
 
 -- the text of finished parts and their `>` is the front of what they were read from

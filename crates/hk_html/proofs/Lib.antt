@@ -11,3 +11,4 @@ pub mod WholeLemmas
 pub mod RootLemmas
 pub mod JoinLemmas
 pub mod AgainLemmas
+pub mod RootedLemmas

@@ -50,7 +50,7 @@ parts_of-more x xs more =
     let other = ne_eqb x 62 more in
     rw (other, first_part-some x xs) (rw (parts_after-drop (length (drop 1 (part_text (first_part x xs)))) xs))
 
-parts_of-ahead : (text : Bytes) → 0 < length text → (first text ≡ 62 → ⊥) → parts_of text ≡ option_map (λ parts. first_part (first text) (drop 1 text) ∷ parts) (parts_of (drop (length (part_text (first_part (first text) (drop 1 text)))) text))
+pub parts_of-ahead : (text : Bytes) → 0 < length text → (first text ≡ 62 → ⊥) → parts_of text ≡ option_map (λ parts. first_part (first text) (drop 1 text) ∷ parts) (parts_of (drop (length (part_text (first_part (first text) (drop 1 text)))) text))
 parts_of-ahead [] some more = absurd (omega arith)
 parts_of-ahead (x ∷ xs) some more = parts_of-more x xs more
 

@@ -1,0 +1,110 @@
+-- The parts of a tag with a root in its URLs, read again.
+use Rattle.std.proofs.Common.{◌≡◌, ℕ, zero, suc, ◌+◌, ◌-◌, ◌<◌, ◌≤◌, Bool, true, false, cond, not, ◌||◌, ◌&&◌, ◌==◌, if◌then◌else◌, List, [], ◌∷◌, ◌++◌, map, Option, Some, None, codes, replicate, length, drop, take, arith, refl, sym, ap, subst, ◌∙◌, append_assoc, inl, inr}
+use Rattle.std.specs.List.{prefix_len, take_while, list_all, flat_map, join_with_byte}
+use Rattle.std.specs.Option.{option_map}
+use Rattle.std.proofs.lemmas.Bool.{eqb-true, eqb-false, or_cases}
+use Rattle.std.proofs.lemmas.List.{append-nil, length-append}
+use Rattle.std.proofs.Math.Seq.{drop-append_seam}
+use Rattle.hk_base.specs.Bytes.{Bytes}
+use Rattle.hk_html.specs.Kind.{is_white, is_attribute_byte, is_value_byte, is_quote, is_other, first, after_run}
+use Rattle.hk_html.specs.Part.{Part, mark, bare, valued, value_part, named_part, attribute, first_part, part_text, parts_of, parts_text, is_link, is_rooted, with_root, part_with_root, part_links}
+use Rattle.hk_html.specs.Root.{root_at}
+use Rattle.hk_html.proofs.AgainLemmas.{IsPart, marks, bares, quotes, opens, Stops, Cuts, part_cut, part_again}
+use Rattle.hk_html.proofs.JoinLemmas.{one_before, shorter}
+use Rattle.hk_html.proofs.PartsLemmas.{parts_of-more, parts_of-ahead, first_part-some}
+
+-- what may stand before a root URL
+pub record IsRoot (root : Bytes) : Type 0 where
+  pub more : Bytes
+  pub same : root ≡ 46 ∷ more
+  pub values : list_all is_value_byte root ≡ true
+  pub unquoted : (q : ℕ) → is_quote q ≡ true → list_all (is_other q) root ≡ true
+
+quote_is : (q : ℕ) (P : ℕ → Type 0) → is_quote q ≡ true → P 34 → P 39 → P q
+quote_is q P quote double single =
+    elim (or_cases (q == 34) (q == 39) quote) [
+      inl e ↦ subst P (sym (eqb-true q 34 e)) double
+    | inr e ↦ subst P (sym (eqb-true q 39 e)) single
+    ]
+
+joined_all : (p : ℕ → Bool) (level : ℕ) → p 46 ≡ true → p 47 ≡ true → list_all p (join_with_byte 47 (replicate (suc level) (codes ".."))) ≡ true
+joined_all p zero dot slash = rw (dot)
+joined_all p (suc level) dot slash = rw (dot, slash) (joined_all p level dot slash)
+
+starts : (level : ℕ) → root_at (suc level) ≡ 46 ∷ drop 1 (root_at (suc level))
+starts zero = refl
+starts (suc level) = refl
+
+pub IsRoot-root_at : (level : ℕ) → IsRoot (root_at level)
+IsRoot-root_at zero = record { more = []; same = refl; values = refl; unquoted = λ q quote. quote_is q (λ q. list_all (is_other q) (codes ".") ≡ true) quote refl refl }
+IsRoot-root_at (suc level) = record {
+  more = drop 1 (root_at (suc level));
+  same = starts level;
+  values = joined_all is_value_byte level refl refl;
+  unquoted = λ q quote. joined_all (is_other q) level (quote_is q (λ q. is_other q 46 ≡ true) quote refl refl) (quote_is q (λ q. is_other q 47 ≡ true) quote refl refl);
+}
+
+list_all-append : (p : ℕ → Bool) (xs ys : Bytes) → list_all p xs ≡ true → list_all p ys ≡ true → list_all p (xs ++ ys) ≡ true
+list_all-append p [] ys one two = two
+list_all-append p (x ∷ xs) ys one two =
+    elim (p x) as (λ b. (b && list_all p xs) ≡ true → (b && list_all p (xs ++ ys)) ≡ true) [
+      true ↦ λ more. list_all-append p xs ys more two
+    | false ↦ λ more. cc
+    ] one
+
+-- a part with the root in its URL
+abbrev pub rooted_part : Bytes → Part → Part
+rooted_part root (mark b) = mark b
+rooted_part root (bare text) = bare text
+rooted_part root (valued name between value close) = valued name between (if is_link name then with_root root value else value) close
+
+abbrev pub rooted_parts : Bytes → List Part → List Part
+rooted_parts root parts = map (rooted_part root) parts
+
+-- one or the other value
+either_value : (P : Bytes → Type 0) (link rooted : Bool) (root value : Bytes) → P value → P (root ++ value) → P (if link then (if rooted then root ++ value else value) else value)
+either_value P true true root value plain longer = longer
+either_value P true false root value plain longer = plain
+either_value P false rooted root value plain longer = plain
+
+root_starts : (p : ℕ → Bool) (root value more : Bytes) → root ≡ 46 ∷ more → p 46 ≡ false → (f : ℕ) → Stops p ((root ++ value) ++ (f ∷ []))
+root_starts p root value more same dot f = rw same dot
+
+root_unquoted : (root value more : Bytes) → root ≡ 46 ∷ more → (f : ℕ) → is_quote (first ((root ++ value) ++ (f ∷ []))) ≡ false
+root_unquoted root value more same f = rw same
+
+pub IsPart-rooted : (root : Bytes) → IsRoot root → {part : Part} {f : ℕ} → IsPart part f → IsPart (rooted_part root part) f
+IsPart-rooted root is_root (marks b f e) = marks b f e
+IsPart-rooted root is_root (bares x name white f other names whites ends stop sign) = bares x name white f other names whites ends stop sign
+IsPart-rooted root is_root (quotes x name white gap q value f other names whites gaps nonwhite quote others) =
+    either_value (λ value. IsPart (valued (x ∷ name) ((white ++ 61 ∷ gap) ++ q ∷ []) value (q ∷ [])) f) (is_link (x ∷ name)) (is_rooted value) root value
+    (quotes x name white gap q value f other names whites gaps nonwhite quote others)
+    (quotes x name white gap q (root ++ value) f other names whites gaps nonwhite quote (list_all-append (is_other q) root value (is_root.unquoted q quote) others))
+IsPart-rooted root is_root (opens x name white gap value f other names whites gaps starts quote values stop) =
+    either_value (λ value. IsPart (valued (x ∷ name) (white ++ 61 ∷ gap) value []) f) (is_link (x ∷ name)) (is_rooted value) root value
+    (opens x name white gap value f other names whites gaps starts quote values stop)
+    (opens x name white gap (root ++ value) f other names whites gaps (root_starts is_white root value is_root.more is_root.same refl f)
+      (root_unquoted root value is_root.more is_root.same f) (list_all-append is_value_byte root value is_root.values values) stop)
+
+value_head : (root : Bytes) (x : ℕ) (name between text : Bytes) → let part = rooted_part root (value_part (x ∷ name) between text) in part_text part ≡ x ∷ drop 1 (part_text part)
+value_head root x name between text =
+    elim (is_quote (first text)) as (λ b. let part = rooted_part root (cond b
+      (valued (x ∷ name) (between ++ first text ∷ []) (take_while (is_other (first text)) (drop 1 text)) (take 1 (after_run (is_other (first text)) (drop 1 text))))
+      (valued (x ∷ name) between (take_while is_value_byte text) [])) in part_text part ≡ x ∷ drop 1 (part_text part)) [ true ↦ refl | false ↦ refl ]
+
+named_head : (root : Bytes) (x : ℕ) (name white text : Bytes) → let part = rooted_part root (named_part (x ∷ name) white text) in part_text part ≡ x ∷ drop 1 (part_text part)
+named_head root x name white text =
+    elim (first text == 61) as (λ b. let part = rooted_part root (cond b
+      (value_part (x ∷ name) (white ++ 61 ∷ take_while is_white (drop 1 text)) (after_run is_white (drop 1 text)))
+      (bare ((x ∷ name) ++ white))) in part_text part ≡ x ∷ drop 1 (part_text part)) [
+      true ↦ value_head root x name (white ++ 61 ∷ take_while is_white (drop 1 text)) (after_run is_white (drop 1 text))
+    | false ↦ refl
+    ]
+
+-- a part begins with the same byte as before
+pub part_head : (root : Bytes) (x : ℕ) (xs : Bytes) → let part = rooted_part root (first_part x xs) in part_text part ≡ x ∷ drop 1 (part_text part)
+part_head root x xs =
+    elim (is_white x || x == 47) as (λ b. let part = rooted_part root (cond b (mark x) (attribute x xs)) in part_text part ≡ x ∷ drop 1 (part_text part)) [
+      true ↦ refl
+    | false ↦ named_head root x (take_while is_attribute_byte xs) (take_while is_white (after_run is_attribute_byte xs)) (after_run is_white (after_run is_attribute_byte xs))
+    ]
