@@ -108,3 +108,69 @@ part_head root x xs =
       true ↦ refl
     | false ↦ named_head root x (take_while is_attribute_byte xs) (take_while is_white (after_run is_attribute_byte xs)) (after_run is_white (after_run is_attribute_byte xs))
     ]
+
+parts_of-joined : (part : Part) (x : ℕ) (text rest : Bytes) (more : List Part) → part_text part ≡ x ∷ text → (x ≡ 62 → ⊥)
+    → first_part (first (part_text part ++ rest)) (drop 1 (part_text part ++ rest)) ≡ part → parts_of rest ≡ Some more → parts_of (part_text part ++ rest) ≡ Some (part ∷ more)
+parts_of-joined part x text rest more head ongoing again found =
+    let some : 0 < length (part_text part ++ rest) = omega (arith, ap length head, length-append (part_text part) rest) in
+    let begins : first (part_text part ++ rest) ≡ x = rw head in
+    let step = parts_of-ahead (part_text part ++ rest) some (λ e. ongoing (sym begins ∙ e)) in
+    step ∙ rw (again, drop-append_seam (part_text part) rest, found)
+
+some_text : (text : Bytes) (parts : List Part) → parts_of text ≡ Some parts → (f : ℕ) × (more : Bytes) × (text ≡ f ∷ more)
+some_text [] parts found = cc
+some_text (f ∷ more) parts found = (f, more, refl)
+
+headed : (f : ℕ) (part parts rest text : Bytes) → part ≡ f ∷ text → (part ++ parts) ++ rest ≡ f ∷ drop 1 ((part ++ parts) ++ rest)
+headed f part parts rest text e = rw e
+
+-- the parts begin with the same byte as before
+pub parts_head : (root : Bytes) (f : ℕ) (text : Bytes) (parts : List Part) (rest : Bytes) → parts_of (f ∷ text) ≡ Some parts
+    → parts_text (rooted_parts root parts) ++ (62 ∷ rest) ≡ f ∷ drop 1 (parts_text (rooted_parts root parts) ++ (62 ∷ rest))
+parts_head root f text parts rest found =
+    elim (f == 62) as (λ b. (f == 62) ≡ b → parts_text (rooted_parts root parts) ++ (62 ∷ rest) ≡ f ∷ drop 1 (parts_text (rooted_parts root parts) ++ (62 ∷ rest))) [
+      true ↦ λ end.
+        let none : Some [] ≡ Some parts = rw end at found in
+        let same : [] ≡ parts = cc in
+        subst (λ (all : List Part). parts_text (rooted_parts root all) ++ (62 ∷ rest) ≡ f ∷ drop 1 (parts_text (rooted_parts root all) ++ (62 ∷ rest))) same
+        (ap (λ x. x ∷ rest) (sym (eqb-true f 62 end)))
+    | false ↦ λ ongoing.
+        let part = first_part f text in
+        let step = one_before (parts_of (drop (length (part_text part)) (f ∷ text))) part parts (sym (parts_of-more f text (eqb-false f 62 ongoing)) ∙ found) in
+        subst (λ (all : List Part). parts_text (rooted_parts root all) ++ (62 ∷ rest) ≡ f ∷ drop 1 (parts_text (rooted_parts root all) ++ (62 ∷ rest))) (sym step.2)
+        (headed f (part_text (rooted_part root part)) (parts_text (rooted_parts root step.0)) (62 ∷ rest) (drop 1 (part_text (rooted_part root part))) (part_head root f text))
+    ] refl
+
+again_within : (root : Bytes) → IsRoot root → (fuel : ℕ) (text : Bytes) (parts : List Part) → length text ≤ fuel → parts_of text ≡ Some parts → (rest : Bytes)
+    → parts_of (parts_text (rooted_parts root parts) ++ (62 ∷ rest)) ≡ Some (rooted_parts root parts)
+again_within root is_root fuel [] parts short found rest = cc
+again_within root is_root zero (x ∷ xs) parts short found rest = absurd (omega arith)
+again_within root is_root (suc fuel) (x ∷ xs) parts short found rest =
+    elim (x == 62) as (λ b. (x == 62) ≡ b → parts_of (parts_text (rooted_parts root parts) ++ (62 ∷ rest)) ≡ Some (rooted_parts root parts)) [
+      true ↦ λ end.
+        let none : Some [] ≡ Some parts = rw end at found in
+        let same : [] ≡ parts = cc in
+        subst (λ (all : List Part). parts_of (parts_text (rooted_parts root all) ++ (62 ∷ rest)) ≡ Some (rooted_parts root all)) same refl
+    | false ↦ λ ongoing.
+        let part = first_part x xs in
+        let rooted = rooted_part root part in
+        let size = length (part_text part) in
+        let some : 0 < size = omega (arith, first_part-some x xs) in
+        let step = one_before (parts_of (drop size (x ∷ xs))) part parts (sym (parts_of-more x xs (eqb-false x 62 ongoing)) ∙ found) in
+        let cut = part_cut x xs in
+        let left : drop size (x ∷ xs) ≡ cut.rest = ap (drop size) cut.same ∙ drop-append_seam (part_text part) cut.rest in
+        let next = some_text (drop size (x ∷ xs)) step.0 step.1 in
+        let is_part = IsPart-rooted root is_root (cut.is_part next.0 next.1 (sym left ∙ next.2)) in
+        let after = parts_text (rooted_parts root step.0) ++ (62 ∷ rest) in
+        let head : after ≡ next.0 ∷ drop 1 after = parts_head root next.0 next.1 step.0 rest (ap parts_of (sym next.2) ∙ step.1) in
+        let same = subst (λ (t : Bytes). first_part (first (part_text rooted ++ t)) (drop 1 (part_text rooted ++ t)) ≡ rooted) (sym head) (part_again (drop 1 after) is_part) in
+        let more = again_within root is_root fuel (drop size (x ∷ xs)) step.0 (shorter (x ∷ xs) size fuel short some) step.1 rest in
+        subst (λ (all : List Part). parts_of (parts_text (rooted_parts root all) ++ (62 ∷ rest)) ≡ Some (rooted_parts root all)) (sym step.2)
+        (ap parts_of (append_assoc (part_text rooted) (parts_text (rooted_parts root step.0)) (62 ∷ rest))
+        ∙ parts_of-joined rooted x (drop 1 (part_text rooted)) after (rooted_parts root step.0) (part_head root x xs) (eqb-false x 62 ongoing) same more)
+    ] refl
+
+-- finished parts are read again, whatever comes after their `>`
+pub parts_again : (root : Bytes) → IsRoot root → (text : Bytes) (parts : List Part) → parts_of text ≡ Some parts → (rest : Bytes)
+    → parts_of (parts_text (rooted_parts root parts) ++ (62 ∷ rest)) ≡ Some (rooted_parts root parts)
+parts_again root is_root text parts found rest = again_within root is_root (length text) text parts (omega arith) found rest
