@@ -12,3 +12,4 @@ pub mod RootLemmas
 pub mod JoinLemmas
 pub mod AgainLemmas
 pub mod RootedLemmas
+pub mod FollowLemmas

@@ -2,7 +2,7 @@ use Rattle.std.proofs.Common.{◌≡◌, ◌++◌, drop, ◌∙◌}
 use Rattle.hk_html.specs.Relative.{with_roots}
 use Rattle.hk_html.specs.Root.{root_of}
 use Rattle.hk_html.specs.Scan.{links_with_root}
-use Rattle.hk_html.proofs.RootedLemmas.{part_head}
+use Rattle.hk_html.proofs.FollowLemmas.{follows}
 use Rattle.hk_html.proofs.JoinLemmas.{joined, unchanged}
 use Rattle.hk_html.proofs.WholeLemmas.{ReadsAll-text}
 use Rattle.hk_html.proofs.relative.relativize.Goals as goal
