@@ -26,7 +26,7 @@ tag_by-head : (root : Bytes) (x : ℕ) (xs : Bytes) (found : Option (List Part))
 tag_by-head root x xs None = refl
 tag_by-head root x xs (Some parts) = refl
 
-piece_head : (root : Bytes) (x : ℕ) (xs : Bytes) → let text = piece_with_root root (first_piece x xs) in text ≡ x ∷ drop 1 text
+pub piece_head : (root : Bytes) (x : ℕ) (xs : Bytes) → let text = piece_with_root root (first_piece x xs) in text ≡ x ∷ drop 1 text
 piece_head root x xs =
     elim (starts_with nat_eq (x ∷ xs) (codes "<!--")) as (λ b. let text = piece_with_root root (cond b
       (comment (x ∷ take (place_of_word (codes "-->") (drop 3 xs) + 6) xs))
@@ -38,7 +38,7 @@ piece_head root x xs =
       ]
     ]
 
-with_roots-cons : (root : Bytes) (x : ℕ) (xs : Bytes) → with_roots root (x ∷ xs) ≡ piece_with_root root (first_piece x xs) ++ with_roots root (drop (length (piece_text (first_piece x xs))) (x ∷ xs))
+pub with_roots-cons : (root : Bytes) (x : ℕ) (xs : Bytes) → with_roots root (x ∷ xs) ≡ piece_with_root root (first_piece x xs) ++ with_roots root (drop (length (piece_text (first_piece x xs))) (x ∷ xs))
 with_roots-cons root x xs = ap (λ all. flat_map (piece_with_root root) all) (pieces-cons x xs)
 
 pub follows : (root text : Bytes) → Follows text (with_roots root text)
@@ -87,11 +87,11 @@ other_again x xs again begins letter same =
     let letter' : (x == 60 && is_ascii_alphabetic (first again)) ≡ false = ap (λ b. x == 60 && is_ascii_alphabetic b) (first_follows xs again same) ∙ letter in
     rw (begins', letter')
 
-place_of-found : (test : Bytes → Bool) (text : Bytes) → test text ≡ true → place_of test text ≡ 0
+pub place_of-found : (test : Bytes → Bool) (text : Bytes) → test text ≡ true → place_of test text ≡ 0
 place_of-found test [] e = refl
 place_of-found test (x ∷ xs) e = place_of-yes test x xs e
 
-starts_with-front : (text word more : Bytes) (count : ℕ) → length word ≤ count → count ≤ length text → starts_with nat_eq (take count text ++ more) word ≡ starts_with nat_eq text word
+pub starts_with-front : (text word more : Bytes) (count : ℕ) → length word ≤ count → count ≤ length text → starts_with nat_eq (take count text ++ more) word ≡ starts_with nat_eq text word
 starts_with-front text word more count enough fits =
     let size : length (take count text) ≡ count = length-take-le count text fits in
     let short : length word ≤ length (take count text) = omega arith in

@@ -64,9 +64,11 @@ regrouped name parts close raw rest = simp append_assoc
 tag_joined : (x : ℕ) (name parts raw rest : Bytes) → x ∷ (name ++ ((parts ++ (62 ∷ [])) ++ (raw ++ rest))) ≡ ((x ∷ name) ++ (parts ++ (62 ∷ raw))) ++ rest
 tag_joined x name parts raw rest = ap (λ more. x ∷ more) (regrouped name parts (62 ∷ []) raw rest)
 
-tag_front : (x : ℕ) (xs : Bytes) (found : Option (List Part)) → parts_of (after_run is_tag_byte xs) ≡ found → BeginsWith (x ∷ xs) (piece_text (tag_by x xs found))
-tag_front x xs None found = record { rest = []; same = sym (append-nil (x ∷ xs)) }
-tag_front x xs (Some parts) found =
+-- a finished tag, and what stands after its raw text
+pub tag_same : (x : ℕ) (xs : Bytes) (parts : List Part) → parts_of (after_run is_tag_byte xs) ≡ Some parts
+    → let left = drop (length (parts_text parts) + 1) (after_run is_tag_byte xs) in
+    x ∷ xs ≡ piece_text (tag_by x xs (Some parts)) ++ drop (length (raw_text (take_while is_tag_byte xs) left)) left
+tag_same x xs parts found =
     let name = take_while is_tag_byte xs in
     let after = after_run is_tag_byte xs in
     let front = parts_front after parts found in
@@ -75,11 +77,15 @@ tag_front x xs (Some parts) found =
     let raw = raw_text name left in
     let cut : after ≡ (parts_text parts ++ (62 ∷ [])) ++ left = rw (← size) (front_drop front) in
     let raw_cut : left ≡ raw ++ drop (length raw) left = sym (take-append-drop (length raw) left) ∙ ap (λ r. r ++ drop (length raw) left) (raw_text-front name left) in
-    record {
-      rest = drop (length raw) left;
-      same = ap (λ more. x ∷ more) (run_front is_tag_byte xs ∙ ap (λ a. name ++ a) (cut ∙ ap (λ l. (parts_text parts ++ (62 ∷ [])) ++ l) raw_cut))
-        ∙ tag_joined x name (parts_text parts) raw (drop (length raw) left);
-    }
+    ap (λ more. x ∷ more) (run_front is_tag_byte xs ∙ ap (λ a. name ++ a) (cut ∙ ap (λ l. (parts_text parts ++ (62 ∷ [])) ++ l) raw_cut))
+    ∙ tag_joined x name (parts_text parts) raw (drop (length raw) left)
+
+tag_front : (x : ℕ) (xs : Bytes) (found : Option (List Part)) → parts_of (after_run is_tag_byte xs) ≡ found → BeginsWith (x ∷ xs) (piece_text (tag_by x xs found))
+tag_front x xs None found = record { rest = []; same = sym (append-nil (x ∷ xs)) }
+tag_front x xs (Some parts) found = record {
+  rest = let left = drop (length (parts_text parts) + 1) (after_run is_tag_byte xs) in drop (length (raw_text (take_while is_tag_byte xs) left)) left;
+  same = tag_same x xs parts found;
+}
 
 pub piece_front : (x : ℕ) (xs : Bytes) → BeginsWith (x ∷ xs) (piece_text (first_piece x xs))
 piece_front x xs =

@@ -13,3 +13,5 @@ pub mod JoinLemmas
 pub mod AgainLemmas
 pub mod RootedLemmas
 pub mod FollowLemmas
+pub mod RawLemmas
+pub mod PiecesAgainLemmas

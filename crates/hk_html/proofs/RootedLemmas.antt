@@ -117,7 +117,7 @@ parts_of-joined part x text rest more head ongoing again found =
     let step = parts_of-ahead (part_text part ++ rest) some (λ e. ongoing (sym begins ∙ e)) in
     step ∙ rw (again, drop-append_seam (part_text part) rest, found)
 
-some_text : (text : Bytes) (parts : List Part) → parts_of text ≡ Some parts → (f : ℕ) × (more : Bytes) × (text ≡ f ∷ more)
+pub some_text : (text : Bytes) (parts : List Part) → parts_of text ≡ Some parts → (f : ℕ) × (more : Bytes) × (text ≡ f ∷ more)
 some_text [] parts found = cc
 some_text (f ∷ more) parts found = (f, more, refl)
 

@@ -42,7 +42,7 @@ pieces_after-drop (suc skip) (x ∷ xs) = pieces_after-drop skip xs
 pub pieces-cons : (x : ℕ) (xs : Bytes) → pieces (x ∷ xs) ≡ first_piece x xs ∷ pieces (drop (length (piece_text (first_piece x xs))) (x ∷ xs))
 pieces-cons x xs = rw (first_piece-some x xs) (ap (λ more. first_piece x xs ∷ more) (pieces_after-drop (length (drop 1 (piece_text (first_piece x xs)))) xs))
 
-pieces-ahead : (text : Bytes) → 0 < length text → pieces text ≡ first_piece (first text) (drop 1 text) ∷ pieces (drop (length (piece_text (first_piece (first text) (drop 1 text)))) text)
+pub pieces-ahead : (text : Bytes) → 0 < length text → pieces text ≡ first_piece (first text) (drop 1 text) ∷ pieces (drop (length (piece_text (first_piece (first text) (drop 1 text)))) text)
 pieces-ahead [] some = absurd (omega arith)
 pieces-ahead (x ∷ xs) some = pieces-cons x xs
 

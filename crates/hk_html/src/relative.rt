@@ -1,5 +1,5 @@
 // A text with its root URLs made relative, and the URLs in it.
-ghost use Rattle.std.specs.Prelude.{◌≡◌, false, ◌++◌, IfOk, OnOk};
+ghost use Rattle.std.specs.Prelude.{◌≡◌, false, ◌++◌, map, IfOk, OnOk};
 ghost use Rattle.std.specs.List.{flat_map, list_any};
 ghost use Rattle.hk_html.specs.Part as part;
 ghost use Rattle.hk_html.specs.Piece.{piece_text, pieces};
@@ -20,6 +20,7 @@ use std::alloc::Global;
 pub fn relativize(alloc: Global, body: &[u8], target: &[u8]) -> Result<Text, NoMemory>
     ensures value { IfOk result (λ text. text ≡ with_roots (spec.root_of target.now) body.now) }
     ensures joined { OnOk result (flat_map piece_text (pieces body.now) ≡ body.now) }
+    ensures links { IfOk result (λ text. links_of text ≡ map (part.with_root (spec.root_of target.now)) (links_of body.now)) }
     ensures unchanged { IfOk result (λ text. list_any part.is_rooted (links_of body.now) ≡ false → text ≡ body.now) }
 {
     let root = root_of(alloc, target)?;

@@ -1,8 +1,9 @@
 use Rattle.std.proofs.Common.{◌≡◌, ◌++◌, drop, ◌∙◌}
 use Rattle.hk_html.specs.Relative.{with_roots}
-use Rattle.hk_html.specs.Root.{root_of}
+use Rattle.hk_html.specs.Root.{root_of, level_of}
 use Rattle.hk_html.specs.Scan.{links_with_root}
-use Rattle.hk_html.proofs.FollowLemmas.{follows}
+use Rattle.hk_html.proofs.RootedLemmas.{IsRoot-root_at}
+use Rattle.hk_html.proofs.PiecesAgainLemmas.{links_of-with_roots}
 use Rattle.hk_html.proofs.JoinLemmas.{joined, unchanged}
 use Rattle.hk_html.proofs.WholeLemmas.{ReadsAll-text}
 use Rattle.hk_html.proofs.relative.relativize.Goals as goal
@@ -21,6 +22,10 @@ returns-clause-value c = value_is c
 
 pub returns-clause-joined : goal.returns-clause-joined
 returns-clause-joined c = joined c.args.body.now
+
+pub returns-clause-links : goal.returns-clause-links
+returns-clause-links c =
+    rw (value_is c) (links_of-with_roots (root_of c.args.target.now) (IsRoot-root_at (level_of c.args.target.now)) c.args.body.now)
 
 pub returns-clause-unchanged : goal.returns-clause-unchanged
 returns-clause-unchanged c = λ none. value_is c ∙ unchanged (root_of c.args.target.now) c.args.body.now none
