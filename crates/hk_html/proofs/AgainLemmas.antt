@@ -1,8 +1,8 @@
 -- A part of a tag, read again from a text of its own.
-use Rattle.std.proofs.Common.{◌≡◌, ℕ, zero, suc, ◌+◌, ◌-◌, ◌<◌, ◌≤◌, Bool, true, false, cond, not, ◌||◌, ◌&&◌, ◌==◌, if◌then◌else◌, List, [], ◌∷◌, ◌++◌, length, drop, take, arith, refl, sym, ap, subst, ◌∙◌, append_assoc}
+use Rattle.std.proofs.Common.{◌≡◌, ℕ, suc, ◌+◌, Bool, true, false, cond, ◌||◌, ◌&&◌, ◌==◌, [], ◌∷◌, ◌++◌, drop, take, arith, refl, sym, ap, subst, ◌∙◌, append_assoc}
 use Rattle.std.specs.List.{prefix_len, take_while, list_all}
 use Rattle.std.proofs.lemmas.Bool.{eqb-true, eq-eqb, not-false}
-use Rattle.std.proofs.lemmas.List.{append-nil, take-append-drop}
+use Rattle.std.proofs.lemmas.List.{take-append-drop}
 use Rattle.hk_base.specs.Bytes.{Bytes}
 use Rattle.hk_html.specs.Kind.{is_white, is_attribute_byte, is_value_byte, is_quote, is_other, first, after_run}
 use Rattle.hk_html.specs.Part.{Part, mark, bare, valued, value_part, named_part, attribute, first_part, part_text}
@@ -46,16 +46,16 @@ pub list_all-run : (p : ℕ → Bool) (text : Bytes) → list_all p (take_while 
 list_all-run p [] = refl
 list_all-run p (x ∷ xs) =
     elim (p x) as (λ b. p x ≡ b → list_all p (take_while p (x ∷ xs)) ≡ true) [
-      true ↦ λ e. rw (run-yes p x xs e) (both (p x) (list_all p (take_while p xs)) e (list_all-run p xs))
-    | false ↦ λ e. rw (run-no p x xs e)
+      | true ↦ λ e. rw (run-yes p x xs e) (both (p x) (list_all p (take_while p xs)) e (list_all-run p xs))
+      | false ↦ λ e. rw (run-no p x xs e)
     ] refl
 
 pub Stops-after : (p : ℕ → Bool) (text : Bytes) → Stops p (after_run p text)
 Stops-after p [] = tt
 Stops-after p (x ∷ xs) =
     elim (p x) as (λ b. p x ≡ b → Stops p (after_run p (x ∷ xs))) [
-      true ↦ λ e. rw (after-yes p x xs e) (Stops-after p xs)
-    | false ↦ λ e. rw (after-no p x xs e) e
+      | true ↦ λ e. rw (after-yes p x xs e) (Stops-after p xs)
+      | false ↦ λ e. rw (after-no p x xs e) e
     ] refl
 
 pub run_again : (p : ℕ → Bool) (run rest : Bytes) → list_all p run ≡ true → Stops p rest → take_while p (run ++ rest) ≡ run
@@ -181,26 +181,26 @@ value_cut x name white gap [] other names whites gaps stop = record {
 value_cut x name white gap (q ∷ qs) other names whites gaps stop =
     let between = white ++ 61 ∷ gap in
     elim (is_quote q) as (λ b. is_quote q ≡ b → Cuts ((x ∷ name) ++ (between ++ (q ∷ qs))) (cond b
-      (valued (x ∷ name) (between ++ q ∷ []) (take_while (is_other q) qs) (take 1 (after_run (is_other q) qs)))
-      (valued (x ∷ name) between (take_while is_value_byte (q ∷ qs)) []))) [
-      true ↦ λ quote. record {
+    (valued (x ∷ name) (between ++ q ∷ []) (take_while (is_other q) qs) (take 1 (after_run (is_other q) qs)))
+    (valued (x ∷ name) between (take_while is_value_byte (q ∷ qs)) []))) [
+      | true ↦ λ quote. record {
         rest = drop 1 (after_run (is_other q) qs);
         same = quoted_front (x ∷ name) between q qs (take_while (is_other q) qs) (take 1 (after_run (is_other q) qs)) (drop 1 (after_run (is_other q) qs))
-          (rw (take-append-drop 1 (after_run (is_other q) qs)) (run_front (is_other q) qs));
+            (rw (take-append-drop 1 (after_run (is_other q) qs)) (run_front (is_other q) qs));
         is_part = λ f more e.
-          let close = close_is q (after_run (is_other q) qs) f more (Stops-after (is_other q) qs) e in
-          rw close (quotes x name white gap q (take_while (is_other q) qs) f other names whites gaps stop quote (list_all-run (is_other q) qs));
+            let close = close_is q (after_run (is_other q) qs) f more (Stops-after (is_other q) qs) e in
+            rw close (quotes x name white gap q (take_while (is_other q) qs) f other names whites gaps stop quote (list_all-run (is_other q) qs));
       }
-    | false ↦ λ quote. record {
+      | false ↦ λ quote. record {
         rest = after_run is_value_byte (q ∷ qs);
         same = open_front (x ∷ name) between (q ∷ qs) (take_while is_value_byte (q ∷ qs)) (after_run is_value_byte (q ∷ qs)) (run_front is_value_byte (q ∷ qs));
         is_part = λ f more e.
-          let value = take_while is_value_byte (q ∷ qs) in
-          let whole : q ∷ qs ≡ value ++ (f ∷ more) = run_front is_value_byte (q ∷ qs) ∙ ap (λ rest. value ++ rest) e in
-          let starts : Stops is_white (value ++ (f ∷ more)) = subst (λ (text : Bytes). Stops is_white text) whole stop in
-          let none : is_quote (first (value ++ (f ∷ []))) ≡ false = ap is_quote (sym (first-longer value f more)) ∙ ap (λ (text : Bytes). is_quote (first text)) (sym whole) ∙ quote in
-          let ends : is_value_byte f ≡ false = subst (λ (text : Bytes). Stops is_value_byte text) e (Stops-after is_value_byte (q ∷ qs)) in
-          opens x name white gap value f other names whites gaps (Stops-shorter is_white value f more starts) none (list_all-run is_value_byte (q ∷ qs)) ends;
+            let value = take_while is_value_byte (q ∷ qs) in
+            let whole : q ∷ qs ≡ value ++ (f ∷ more) = run_front is_value_byte (q ∷ qs) ∙ ap (λ rest. value ++ rest) e in
+            let starts : Stops is_white (value ++ (f ∷ more)) = subst (λ (text : Bytes). Stops is_white text) whole stop in
+            let none : is_quote (first (value ++ (f ∷ []))) ≡ false = ap is_quote (sym (first-longer value f more)) ∙ ap (λ (text : Bytes). is_quote (first text)) (sym whole) ∙ quote in
+            let ends : is_value_byte f ≡ false = subst (λ (text : Bytes). Stops is_value_byte text) e (Stops-after is_value_byte (q ∷ qs)) in
+            opens x name white gap value f other names whites gaps (Stops-shorter is_white value f more starts) none (list_all-run is_value_byte (q ∷ qs)) ends;
       }
     ] refl
 
@@ -209,22 +209,22 @@ named_cut : (x : ℕ) (name white text : Bytes) → (is_white x || x == 47) ≡ 
 named_cut x name white [] other names whites ends stop = record { rest = []; same = bare_front (x ∷ name) white []; is_part = λ f more e. cc }
 named_cut x name white (y ∷ ys) other names whites ends stop =
     elim (y == 61) as (λ b. (y == 61) ≡ b → Cuts ((x ∷ name) ++ (white ++ (y ∷ ys))) (cond b
-      (value_part (x ∷ name) (white ++ 61 ∷ take_while is_white ys) (after_run is_white ys))
-      (bare ((x ∷ name) ++ white)))) [
-      true ↦ λ sign.
-        let cut = value_cut x name white (take_while is_white ys) (after_run is_white ys) other names whites (list_all-run is_white ys) (Stops-after is_white ys) in
-        record {
-          rest = cut.rest;
-          same = sign_front (x ∷ name) white y ys (take_while is_white ys) (after_run is_white ys) (eqb-true y 61 sign) (run_front is_white ys) ∙ cut.same;
-          is_part = cut.is_part;
-        }
-    | false ↦ λ sign. record {
+    (value_part (x ∷ name) (white ++ 61 ∷ take_while is_white ys) (after_run is_white ys))
+    (bare ((x ∷ name) ++ white)))) [
+      | true ↦ λ sign.
+          let cut = value_cut x name white (take_while is_white ys) (after_run is_white ys) other names whites (list_all-run is_white ys) (Stops-after is_white ys) in
+          record {
+            rest = cut.rest;
+            same = sign_front (x ∷ name) white y ys (take_while is_white ys) (after_run is_white ys) (eqb-true y 61 sign) (run_front is_white ys) ∙ cut.same;
+            is_part = cut.is_part;
+          }
+      | false ↦ λ sign. record {
         rest = y ∷ ys;
         same = bare_front (x ∷ name) white (y ∷ ys);
         is_part = λ f more e.
-          let same : y ≡ f = cc in
-          subst (λ (g : ℕ). IsPart (bare ((x ∷ name) ++ white)) g) same
-          (bares x name white y other names whites (Stops-shorter is_attribute_byte white y ys ends) stop sign);
+            let same : y ≡ f = cc in
+            subst (λ (g : ℕ). IsPart (bare ((x ∷ name) ++ white)) g) same
+            (bares x name white y other names whites (Stops-shorter is_attribute_byte white y ys ends) stop sign);
       }
     ] refl
 
@@ -243,6 +243,6 @@ attribute_cut x xs other =
 pub part_cut : (x : ℕ) (xs : Bytes) → Cuts (x ∷ xs) (first_part x xs)
 part_cut x xs =
     elim (is_white x || x == 47) as (λ b. (is_white x || x == 47) ≡ b → Cuts (x ∷ xs) (cond b (mark x) (attribute x xs))) [
-      true ↦ λ white. record { rest = xs; same = refl; is_part = λ f more e. marks x f white }
-    | false ↦ λ other. attribute_cut x xs other
+      | true ↦ λ white. record { rest = xs; same = refl; is_part = λ f more e. marks x f white }
+      | false ↦ λ other. attribute_cut x xs other
     ] refl

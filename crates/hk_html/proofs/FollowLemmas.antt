@@ -1,20 +1,18 @@
 -- A text with roots begins like the text, up to the first tag.
-use Rattle.std.proofs.Common.{◌≡◌, ℕ, zero, suc, ◌+◌, ◌-◌, ◌<◌, ◌≤◌, Bool, true, false, cond, not, ◌||◌, ◌&&◌, ◌==◌, nat_eq, if◌then◌else◌, List, [], ◌∷◌, ◌++◌, map, Option, Some, None, codes, length, drop, take, arith, refl, sym, ap, subst, ◌∙◌, append_assoc, inl, inr}
-use Rattle.std.specs.List.{prefix_len, take_while, list_all, flat_map, starts_with}
-use Rattle.std.specs.Char.{is_ascii_alphabetic, to_ascii_lowercase}
-use Rattle.std.specs.Str.{str_eq_ignore_ascii_case, bytes_eq}
-use Rattle.std.proofs.lemmas.Bool.{eqb-true, eqb-false, ne_eqb, or_cases, and_parts, not-true}
-use Rattle.std.proofs.lemmas.List.{append-nil, length-append, take-append-le, take-take, length-take-le, take_all, drop_all, take_at, drop-append-le, drop-take, length-take}
+use Rattle.std.proofs.Common.{◌≡◌, ℕ, suc, ◌+◌, ◌<◌, ◌≤◌, Bool, true, false, cond, not, ◌&&◌, ◌==◌, nat_eq, List, [], ◌∷◌, ◌++◌, Option, Some, None, codes, length, drop, take, arith, refl, sym, ap, subst, ◌∙◌}
+use Rattle.std.specs.List.{list_all, flat_map, starts_with}
+use Rattle.std.specs.Char.{is_ascii_alphabetic}
+use Rattle.std.specs.Str.{bytes_eq}
+use Rattle.std.proofs.lemmas.Bool.{eqb-true, eqb-false, ne_eqb, and_parts, not-true}
+use Rattle.std.proofs.lemmas.List.{take-append-le, take-take, length-take-le, length-take}
 use Rattle.std.proofs.lemmas.Slice.Eq.{bytes_eq-Decides}
-use Rattle.std.proofs.Math.Seq.{drop-append_seam}
 use Rattle.hk_base.specs.Bytes.{Bytes}
-use Rattle.hk_html.specs.Kind.{is_white, is_tag_byte, first, after_run}
-use Rattle.hk_html.specs.Part.{Part, part_text, parts_of, parts_text, part_with_root}
-use Rattle.hk_html.specs.Piece.{Piece, comment, tag, unfinished, other, first_piece, tag_by, piece_text, piece_links, piece_with_root, pieces, raw_text, has_raw_text, ends_raw_text}
+use Rattle.hk_html.specs.Kind.{is_tag_byte, first, after_run}
+use Rattle.hk_html.specs.Part.{Part, parts_of}
+use Rattle.hk_html.specs.Piece.{Piece, comment, other, first_piece, tag_by, piece_text, piece_with_root}
 use Rattle.hk_html.specs.Place.{place_of, place_of_word}
-use Rattle.hk_html.specs.Relative.{with_roots, links_of}
-use Rattle.hk_html.proofs.AgainLemmas.{run-yes, run-no}
-use Rattle.hk_html.proofs.PlaceLemmas.{place_of-yes, place_of-no, place_of-le}
+use Rattle.hk_html.specs.Relative.{with_roots}
+use Rattle.hk_html.proofs.PlaceLemmas.{place_of-yes, place_of-no}
 use Rattle.hk_html.proofs.WholeLemmas.{pieces-cons}
 
 -- the bytes of the first text, up to the first that is no piece of its own
@@ -29,12 +27,12 @@ tag_by-head root x xs (Some parts) = refl
 pub piece_head : (root : Bytes) (x : ℕ) (xs : Bytes) → let text = piece_with_root root (first_piece x xs) in text ≡ x ∷ drop 1 text
 piece_head root x xs =
     elim (starts_with nat_eq (x ∷ xs) (codes "<!--")) as (λ b. let text = piece_with_root root (cond b
-      (comment (x ∷ take (place_of_word (codes "-->") (drop 3 xs) + 6) xs))
-      (cond (x == 60 && is_ascii_alphabetic (first xs)) (tag_by x xs (parts_of (after_run is_tag_byte xs))) (other x))) in text ≡ x ∷ drop 1 text) [
-      true ↦ refl
-    | false ↦ elim (x == 60 && is_ascii_alphabetic (first xs)) as (λ b. let text = piece_with_root root (cond b (tag_by x xs (parts_of (after_run is_tag_byte xs))) (other x)) in text ≡ x ∷ drop 1 text) [
-        true ↦ tag_by-head root x xs (parts_of (after_run is_tag_byte xs))
-      | false ↦ refl
+    (comment (x ∷ take (place_of_word (codes "-->") (drop 3 xs) + 6) xs))
+    (cond (x == 60 && is_ascii_alphabetic (first xs)) (tag_by x xs (parts_of (after_run is_tag_byte xs))) (other x))) in text ≡ x ∷ drop 1 text) [
+      | true ↦ refl
+      | false ↦ elim (x == 60 && is_ascii_alphabetic (first xs)) as (λ b. let text = piece_with_root root (cond b (tag_by x xs (parts_of (after_run is_tag_byte xs))) (other x)) in text ≡ x ∷ drop 1 text) [
+        | true ↦ tag_by-head root x xs (parts_of (after_run is_tag_byte xs))
+        | false ↦ refl
       ]
     ]
 
@@ -45,8 +43,7 @@ pub follows : (root text : Bytes) → Follows text (with_roots root text)
 follows root [] = refl
 follows root (x ∷ xs) =
     let piece = first_piece x xs in
-    let left = with_roots root (drop (length (piece_text piece)) (x ∷ xs)) in
-    (
+    let left = with_roots root (drop (length (piece_text piece)) (x ∷ xs)) in (
       drop 1 (piece_with_root root piece) ++ left,
       with_roots-cons root x xs ∙ ap (λ text. text ++ left) (piece_head root x xs),
       λ plain. subst (λ (p : Piece). Follows xs (drop 1 (piece_with_root root p) ++ with_roots root (drop (length (piece_text p)) (x ∷ xs)))) (sym plain) (follows root xs),
@@ -68,11 +65,11 @@ word_follows (c ∷ cs) (x ∷ xs) again plain same =
     let tests = and_parts (not (c == 60)) (list_all (λ b. not (b == 60)) cs) plain in
     ap (λ (t : Bytes). bytes_eq (c ∷ cs) (take (suc (length cs)) t)) same.1
     ∙ elim (nat_eq c x) as (λ b. nat_eq c x ≡ b → (b && bytes_eq cs (take (length cs) same.0)) ≡ (b && bytes_eq cs (take (length cs) xs))) [
-      true ↦ λ e.
-        let x_is : x ≡ c = sym (eqb-true c x e) in
-        let open_not : x ≡ 60 → ⊥ = λ is. eqb-false c 60 (not-true (c == 60) tests.0) (sym x_is ∙ is) in
-        word_follows cs xs same.0 tests.1 (same.2 (plain_piece x xs open_not))
-    | false ↦ λ e. refl
+      | true ↦ λ e.
+          let x_is : x ≡ c = sym (eqb-true c x e) in
+          let open_not : x ≡ 60 → ⊥ = λ is. eqb-false c 60 (not-true (c == 60) tests.0) (sym x_is ∙ is) in
+          word_follows cs xs same.0 tests.1 (same.2 (plain_piece x xs open_not))
+      | false ↦ λ e. refl
     ] refl
 
 first_follows : (text again : Bytes) → Follows text again → first again ≡ first text
@@ -112,23 +109,23 @@ place_stays word [] more found = absurd (omega arith)
 place_stays word (y ∷ ys) more found =
     let test : Bytes → Bool = λ rest. starts_with nat_eq rest word in
     elim (starts_with nat_eq (y ∷ ys) word) as (λ b. starts_with nat_eq (y ∷ ys) word ≡ b → Stays word (y ∷ ys) more) [
-      true ↦ λ e.
-        let at = place_of-yes test y ys e in
-        let size : place_of_word word (y ∷ ys) + length word ≡ length word = omega (arith, at) in
-        let fits = starts_with-fits (y ∷ ys) word e in
-        record {
-          fits = omega (arith, at, fits);
-          place = rw size (place_of-found test (take (length word) (y ∷ ys) ++ more) (starts_with-front (y ∷ ys) word more (length word) (omega arith) fits ∙ e) ∙ sym at);
-        }
-    | false ↦ λ e.
-        let at = place_of-no test y ys e in
-        let inner = place_stays word ys more (omega (arith, at, found)) in
-        let count = place_of_word word ys + length word in
-        let size : place_of_word word (y ∷ ys) + length word ≡ suc count = omega (arith, at) in
-        let fits : suc count ≤ length (y ∷ ys) = omega (arith, inner.fits) in
-        let missed = starts_with-front (y ∷ ys) word more (suc count) (omega arith) fits ∙ e in
-        record {
-          fits = omega (arith, at, inner.fits);
-          place = rw size (place_of-no test y (take count ys ++ more) missed ∙ ap (λ n. 1 + n) inner.place ∙ sym at);
-        }
+      | true ↦ λ e.
+          let at = place_of-yes test y ys e in
+          let size : place_of_word word (y ∷ ys) + length word ≡ length word = omega (arith, at) in
+          let fits = starts_with-fits (y ∷ ys) word e in
+          record {
+            fits = omega (arith, at, fits);
+            place = rw size (place_of-found test (take (length word) (y ∷ ys) ++ more) (starts_with-front (y ∷ ys) word more (length word) (omega arith) fits ∙ e) ∙ sym at);
+          }
+      | false ↦ λ e.
+          let at = place_of-no test y ys e in
+          let inner = place_stays word ys more (omega (arith, at, found)) in
+          let count = place_of_word word ys + length word in
+          let size : place_of_word word (y ∷ ys) + length word ≡ suc count = omega (arith, at) in
+          let fits : suc count ≤ length (y ∷ ys) = omega (arith, inner.fits) in
+          let missed = starts_with-front (y ∷ ys) word more (suc count) (omega arith) fits ∙ e in
+          record {
+            fits = omega (arith, at, inner.fits);
+            place = rw size (place_of-no test y (take count ys ++ more) missed ∙ ap (λ n. 1 + n) inner.place ∙ sym at);
+          }
     ] refl

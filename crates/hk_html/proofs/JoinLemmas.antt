@@ -1,19 +1,19 @@
 -- The pieces, joined, are the text.
-use Rattle.std.proofs.Common.{◌≡◌, ℕ, zero, suc, ◌+◌, ◌-◌, ◌<◌, ◌≤◌, Bool, true, false, cond, if◌then◌else◌, ◌||◌, ◌&&◌, ◌==◌, nat_eq, codes, List, [], ◌∷◌, ◌++◌, Option, Some, None, length, drop, take, arith, refl, sym, ap, subst, ◌∙◌, append_assoc}
+use Rattle.std.proofs.Common.{◌≡◌, ℕ, zero, suc, ◌+◌, ◌<◌, ◌≤◌, Bool, true, false, cond, if◌then◌else◌, ◌||◌, ◌&&◌, ◌==◌, nat_eq, codes, List, [], ◌∷◌, ◌++◌, Option, Some, None, length, drop, take, arith, refl, sym, ap, subst, ◌∙◌, append_assoc}
 use Rattle.std.specs.List.{flat_map, take_while, starts_with, list_any}
 use Rattle.std.specs.Char.{is_ascii_alphabetic}
 use Rattle.std.specs.Option.{option_map}
 use Rattle.std.proofs.lemmas.Bool.{eqb-true, eqb-false}
 use Rattle.std.proofs.lemmas.List.{append-nil, take-append-drop, length-append, length-drop}
-use Rattle.std.proofs.Math.Seq.{take-append_seam, drop-append_seam}
+use Rattle.std.proofs.Math.Seq.{drop-append_seam}
 use Rattle.hk_base.specs.Bytes.{Bytes}
 use Rattle.hk_html.specs.Kind.{first, after_run, is_tag_byte}
 use Rattle.hk_html.specs.Part.{Part, mark, bare, valued, first_part, part_text, parts_of, parts_text, part_links, part_with_root, is_link, is_rooted, with_root}
-use Rattle.hk_html.specs.Piece.{Piece, comment, tag, unfinished, other, first_piece, tag_by, piece_text, piece_links, piece_with_root, pieces, raw_text, has_raw_text, ends_raw_text}
-use Rattle.hk_html.specs.Place.{place_of, place_of_word}
+use Rattle.hk_html.specs.Piece.{Piece, comment, tag, unfinished, other, first_piece, tag_by, piece_text, piece_links, piece_with_root, pieces, raw_text}
+use Rattle.hk_html.specs.Place.{place_of_word}
 use Rattle.hk_html.specs.Relative.{with_roots, links_of}
 use Rattle.hk_html.proofs.FrontLemmas.{BeginsWith, part_front, run_front}
-use Rattle.hk_html.proofs.PartsLemmas.{parts_of-more, parts_of-end, first_part-some}
+use Rattle.hk_html.proofs.PartsLemmas.{parts_of-more, first_part-some}
 use Rattle.hk_html.proofs.PiecesLemmas.{raw_text-front}
 use Rattle.hk_html.proofs.WholeLemmas.{pieces-cons, first_piece-some}
 
@@ -37,22 +37,22 @@ parts_front_within fuel [] parts short found = cc
 parts_front_within zero (x ∷ xs) parts short found = absurd (omega arith)
 parts_front_within (suc fuel) (x ∷ xs) parts short found =
     elim (x == 62) as (λ b. (x == 62) ≡ b → BeginsWith (x ∷ xs) (parts_text parts ++ (62 ∷ []))) [
-      true ↦ λ end.
-        let none : Some [] ≡ Some parts = rw end at found in
-        let same : [] ≡ parts = cc in
-        let x_is = eqb-true x 62 end in
-        record { rest = xs; same = rw (← same, x_is) }
-    | false ↦ λ more.
-        let part = first_part x xs in
-        let size = length (part_text part) in
-        let some : 0 < size = omega (arith, first_part-some x xs) in
-        let step = one_before (parts_of (drop size (x ∷ xs))) part parts (sym (parts_of-more x xs (eqb-false x 62 more)) ∙ found) in
-        let rest = parts_front_within fuel (drop size (x ∷ xs)) step.0 (shorter (x ∷ xs) size fuel short some) step.1 in
-        record {
-          rest = rest.rest;
-          same = subst (λ (all : List Part). x ∷ xs ≡ (parts_text all ++ (62 ∷ [])) ++ rest.rest) (sym step.2)
-            (joined_front (x ∷ xs) (part_text part) (parts_text step.0) rest.rest (front_drop (part_front x xs) ∙ ap (λ left. part_text part ++ left) rest.same));
-        }
+      | true ↦ λ end.
+          let none : Some [] ≡ Some parts = rw end at found in
+          let same : [] ≡ parts = cc in
+          let x_is = eqb-true x 62 end in
+          record { rest = xs; same = rw (← same, x_is) }
+      | false ↦ λ more.
+          let part = first_part x xs in
+          let size = length (part_text part) in
+          let some : 0 < size = omega (arith, first_part-some x xs) in
+          let step = one_before (parts_of (drop size (x ∷ xs))) part parts (sym (parts_of-more x xs (eqb-false x 62 more)) ∙ found) in
+          let rest = parts_front_within fuel (drop size (x ∷ xs)) step.0 (shorter (x ∷ xs) size fuel short some) step.1 in
+          record {
+            rest = rest.rest;
+            same = subst (λ (all : List Part). x ∷ xs ≡ (parts_text all ++ (62 ∷ [])) ++ rest.rest) (sym step.2)
+                (joined_front (x ∷ xs) (part_text part) (parts_text step.0) rest.rest (front_drop (part_front x xs) ∙ ap (λ left. part_text part ++ left) rest.same));
+          }
     ] refl
 
 pub parts_front : (text : Bytes) (parts : List Part) → parts_of text ≡ Some parts → BeginsWith text (parts_text parts ++ (62 ∷ []))
@@ -90,15 +90,15 @@ tag_front x xs (Some parts) found = record {
 pub piece_front : (x : ℕ) (xs : Bytes) → BeginsWith (x ∷ xs) (piece_text (first_piece x xs))
 piece_front x xs =
     elim (starts_with nat_eq (x ∷ xs) (codes "<!--")) as (λ b. BeginsWith (x ∷ xs) (piece_text (cond b
-      (comment (x ∷ take (place_of_word (codes "-->") (drop 3 xs) + 6) xs))
-      (cond (x == 60 && is_ascii_alphabetic (first xs)) (tag_by x xs (parts_of (after_run is_tag_byte xs))) (other x))))) [
-      true ↦ record {
+    (comment (x ∷ take (place_of_word (codes "-->") (drop 3 xs) + 6) xs))
+    (cond (x == 60 && is_ascii_alphabetic (first xs)) (tag_by x xs (parts_of (after_run is_tag_byte xs))) (other x))))) [
+      | true ↦ record {
         rest = drop (place_of_word (codes "-->") (drop 3 xs) + 6) xs;
         same = ap (λ more. x ∷ more) (sym (take-append-drop (place_of_word (codes "-->") (drop 3 xs) + 6) xs));
       }
-    | false ↦ elim (x == 60 && is_ascii_alphabetic (first xs)) as (λ b. BeginsWith (x ∷ xs) (piece_text (cond b (tag_by x xs (parts_of (after_run is_tag_byte xs))) (other x)))) [
-        true ↦ tag_front x xs (parts_of (after_run is_tag_byte xs)) refl
-      | false ↦ record { rest = xs; same = refl }
+      | false ↦ elim (x == 60 && is_ascii_alphabetic (first xs)) as (λ b. BeginsWith (x ∷ xs) (piece_text (cond b (tag_by x xs (parts_of (after_run is_tag_byte xs))) (other x)))) [
+        | true ↦ tag_front x xs (parts_of (after_run is_tag_byte xs)) refl
+        | false ↦ record { rest = xs; same = refl }
       ]
     ]
 
@@ -130,8 +130,8 @@ unrooted (x ∷ xs) ys none =
 same_value : (name value : Bytes) (root : Bytes) → list_any is_rooted (if is_link name then value ∷ [] else []) ≡ false → (if is_link name then with_root root value else value) ≡ value
 same_value name value root =
     elim (is_link name) as (λ b. list_any is_rooted (if b then value ∷ [] else []) ≡ false → (if b then with_root root value else value) ≡ value) [
-      true ↦ λ none. let plain = or_parts_false (is_rooted value) false none in rw plain.0
-    | false ↦ λ none. refl
+      | true ↦ λ none. let plain = or_parts_false (is_rooted value) false none in rw plain.0
+      | false ↦ λ none. refl
     ]
 
 same_part : (root : Bytes) (part : Part) → list_any is_rooted (part_links part) ≡ false → part_with_root root part ≡ part_text part

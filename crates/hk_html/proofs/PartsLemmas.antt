@@ -1,5 +1,5 @@
 -- The parts of a tag, one after the other.
-use Rattle.std.proofs.Common.{◌≡◌, ℕ, zero, suc, ◌+◌, ◌-◌, ◌<◌, ◌≤◌, Bool, true, false, cond, ◌||◌, ◌==◌, List, [], ◌∷◌, ◌++◌, Option, Some, None, length, drop, take, arith, refl, sym, ap, ◌∙◌, append_assoc}
+use Rattle.std.proofs.Common.{◌≡◌, ℕ, zero, suc, ◌<◌, ◌≤◌, true, false, cond, ◌||◌, ◌==◌, List, [], ◌∷◌, ◌++◌, Option, Some, None, length, drop, take, arith, refl, sym, ap, ◌∙◌, append_assoc}
 use Rattle.std.specs.List.{flat_map, take_while}
 use Rattle.std.specs.Option.{option_map}
 use Rattle.std.proofs.lemmas.Bool.{ne_eqb}
@@ -8,33 +8,33 @@ use Rattle.hk_base.specs.Bytes.{Bytes}
 use Rattle.hk_html.specs.declared.scan.Scan.{Scan}
 use Rattle.hk_html.specs.Kind.{is_white, is_attribute_byte, is_value_byte, is_quote, is_other, first, after_run}
 use Rattle.hk_html.specs.Part.{Part, mark, bare, valued, value_part, named_part, attribute, first_part, part_text, parts_after, parts_of, part_links, part_with_root}
-use Rattle.hk_html.specs.Scan.{Reads, ReadsPart, ReadsParts, ReadsTag, ahead, part_ahead, written, link_values}
+use Rattle.hk_html.specs.Scan.{ReadsPart, ReadsParts, ReadsTag, ahead, part_ahead, written, link_values}
 use Rattle.hk_html.proofs.ReadsLemmas.{Reads-ahead, Reads-same, Reads-trans}
 
 value_part-some : (x : ℕ) (name between text : Bytes) → length (part_text (value_part (x ∷ name) between text)) ≡ suc (length (drop 1 (part_text (value_part (x ∷ name) between text))))
 value_part-some x name between text =
     elim (is_quote (first text)) as (λ b. let part = cond b
-      (valued (x ∷ name) (between ++ first text ∷ []) (take_while (is_other (first text)) (drop 1 text)) (take 1 (after_run (is_other (first text)) (drop 1 text))))
-      (valued (x ∷ name) between (take_while is_value_byte text) []) in
-      length (part_text part) ≡ suc (length (drop 1 (part_text part)))) [ true ↦ refl | false ↦ refl ]
+    (valued (x ∷ name) (between ++ first text ∷ []) (take_while (is_other (first text)) (drop 1 text)) (take 1 (after_run (is_other (first text)) (drop 1 text))))
+    (valued (x ∷ name) between (take_while is_value_byte text) []) in
+    length (part_text part) ≡ suc (length (drop 1 (part_text part)))) [ true ↦ refl | false ↦ refl ]
 
 named_part-some : (x : ℕ) (name white text : Bytes) → length (part_text (named_part (x ∷ name) white text)) ≡ suc (length (drop 1 (part_text (named_part (x ∷ name) white text))))
 named_part-some x name white text =
     elim (first text == 61) as (λ b. let part = cond b
-      (value_part (x ∷ name) (white ++ 61 ∷ take_while is_white (drop 1 text)) (after_run is_white (drop 1 text)))
-      (bare ((x ∷ name) ++ white)) in
-      length (part_text part) ≡ suc (length (drop 1 (part_text part)))) [
-      true ↦ value_part-some x name (white ++ 61 ∷ take_while is_white (drop 1 text)) (after_run is_white (drop 1 text))
-    | false ↦ refl
+    (value_part (x ∷ name) (white ++ 61 ∷ take_while is_white (drop 1 text)) (after_run is_white (drop 1 text)))
+    (bare ((x ∷ name) ++ white)) in
+    length (part_text part) ≡ suc (length (drop 1 (part_text part)))) [
+      | true ↦ value_part-some x name (white ++ 61 ∷ take_while is_white (drop 1 text)) (after_run is_white (drop 1 text))
+      | false ↦ refl
     ]
 
 -- a part has at least one byte
 pub first_part-some : (x : ℕ) (xs : Bytes) → length (part_text (first_part x xs)) ≡ suc (length (drop 1 (part_text (first_part x xs))))
 first_part-some x xs =
     elim (is_white x || x == 47) as (λ b. let part = cond b (mark x) (attribute x xs) in
-      length (part_text part) ≡ suc (length (drop 1 (part_text part)))) [
-      true ↦ refl
-    | false ↦ named_part-some x (take_while is_attribute_byte xs) (take_while is_white (after_run is_attribute_byte xs)) (after_run is_white (after_run is_attribute_byte xs))
+    length (part_text part) ≡ suc (length (drop 1 (part_text part)))) [
+      | true ↦ refl
+      | false ↦ named_part-some x (take_while is_attribute_byte xs) (take_while is_white (after_run is_attribute_byte xs)) (after_run is_white (after_run is_attribute_byte xs))
     ]
 
 parts_after-drop : (skip : ℕ) (text : Bytes) → parts_after skip text ≡ parts_of (drop skip text)
@@ -97,9 +97,9 @@ PartsRead-more old now new so_far some more one =
     record {
       parts = done ++ part ∷ [];
       reads = Reads-same _ _ _ (Reads-trans so_far.reads one)
-        (sym (length-append (flat_map part_text done) (part_text part)) ∙ ap length (flat_map_push part_text done part))
-        (λ root. flat_map_push (part_with_root root) done part)
-        (flat_map_push part_links done part);
+          (sym (length-append (flat_map part_text done) (part_text part)) ∙ ap length (flat_map_push part_text done part))
+          (λ root. flat_map_push (part_with_root root) done part)
+          (flat_map_push part_links done part);
       left = so_far.left ∙ rw (step, ← next) (after_one done part (parts_of (ahead new)));
     }
 

@@ -1,22 +1,20 @@
 -- A text with roots, cut into its pieces again.
-use Rattle.std.proofs.Common.{◌≡◌, ℕ, zero, suc, ◌+◌, ◌-◌, ◌<◌, ◌≤◌, Bool, true, false, cond, not, ◌||◌, ◌&&◌, ◌==◌, nat_eq, if◌then◌else◌, List, [], ◌∷◌, ◌++◌, map, Option, Some, None, codes, length, drop, take, arith, refl, sym, ap, subst, ◌∙◌, append_assoc, inl, inr}
-use Rattle.std.specs.List.{take_while, list_all, flat_map, starts_with}
+use Rattle.std.proofs.Common.{◌≡◌, ℕ, zero, suc, ◌+◌, ◌<◌, ◌≤◌, true, false, ◌&&◌, ◌==◌, nat_eq, if◌then◌else◌, List, [], ◌∷◌, ◌++◌, map, Option, Some, None, codes, length, drop, take, arith, refl, sym, ap, subst, ◌∙◌, append_assoc, inl, inr}
+use Rattle.std.specs.List.{take_while, flat_map, starts_with}
 use Rattle.std.specs.Char.{is_ascii_alphabetic}
-use Rattle.std.specs.Str.{bytes_eq}
-use Rattle.std.proofs.lemmas.Bool.{eqb-true, eqb-false, ne_eqb, and_parts, and_right, cases_lt}
+use Rattle.std.proofs.lemmas.Bool.{ne_eqb, and_parts, and_right, cases_lt}
 use Rattle.std.proofs.lemmas.Bool.Decides.{nat_tests}
-use Rattle.std.proofs.lemmas.List.{append-nil, length-append, length-drop, take-append-le, length-take-le, take_all, take_at, drop_all, drop-append-le, drop-take, map-append}
-use Rattle.std.proofs.Math.Seq.{take-append_seam, drop-append_seam, drop-append-add}
+use Rattle.std.proofs.lemmas.List.{append-nil, length-append, length-drop, length-take-le, take_all, take_at, drop_all, drop-append-le, drop-take, map-append}
+use Rattle.std.proofs.Math.Seq.{drop-append_seam, drop-append-add}
 use Rattle.hk_base.specs.Bytes.{Bytes}
-use Rattle.hk_html.specs.Kind.{is_white, is_tag_byte, first, after_run}
-use Rattle.hk_html.specs.Part.{Part, mark, bare, valued, part_text, parts_of, parts_text, part_with_root, part_links, is_link, is_rooted, with_root}
+use Rattle.hk_html.specs.Kind.{is_tag_byte, first, after_run}
+use Rattle.hk_html.specs.Part.{Part, mark, bare, valued, part_text, parts_of, parts_text, part_with_root, part_links, is_link, with_root}
 use Rattle.hk_html.specs.Piece.{Piece, comment, tag, unfinished, other, first_piece, tag_by, piece_text, piece_links, piece_with_root, pieces, raw_text}
-use Rattle.hk_html.specs.Place.{place_of, place_of_word}
+use Rattle.hk_html.specs.Place.{place_of_word}
 use Rattle.hk_html.specs.Relative.{with_roots, links_of}
 use Rattle.hk_html.proofs.AgainLemmas.{Stops, Stops-after, run_again, after_again, list_all-run, run-yes}
-use Rattle.hk_html.proofs.FollowLemmas.{Follows, follows, other_again, starts_with-front, place_stays, with_roots-cons, piece_head}
+use Rattle.hk_html.proofs.FollowLemmas.{follows, other_again, starts_with-front, place_stays, with_roots-cons, piece_head}
 use Rattle.hk_html.proofs.JoinLemmas.{shorter, tag_same}
-use Rattle.hk_html.proofs.PlaceLemmas.{place_of-le}
 use Rattle.hk_html.proofs.RawLemmas.{raw_again}
 use Rattle.hk_html.proofs.RootedLemmas.{IsRoot, rooted_part, rooted_parts, parts_head, parts_again, some_text}
 use Rattle.hk_html.proofs.WholeLemmas.{pieces-ahead, pieces-cons, first_piece-some}
@@ -57,7 +55,7 @@ comment_again-found x xs more begins found =
     let fits : count ≤ length xs = omega (arith, stays.fits, length-drop 3 xs) in
     let size : length text ≡ count = length-take-le count xs fits in
     let begins_again : starts_with nat_eq (x ∷ (text ++ more)) (codes "<!--") ≡ true =
-      starts_with-front (x ∷ xs) (codes "<!--") more (suc count) (omega arith) (omega arith) ∙ begins in
+    starts_with-front (x ∷ xs) (codes "<!--") more (suc count) (omega arith) (omega arith) ∙ begins in
     let three : 3 ≤ length text = omega arith in
     let back : 3 + (place + 3) ≡ count = omega arith in
     let cut : drop 3 (text ++ more) ≡ take (place + 3) (drop 3 xs) ++ more = drop-append-le 3 text more three ∙ ap (λ (t : Bytes). t ++ more) (ap (λ n. drop 3 (take n xs)) (sym back) ∙ drop-take 3 (place + 3) xs) in
@@ -78,8 +76,8 @@ comment_again : (root : Bytes) (x : ℕ) (xs : Bytes) → starts_with nat_eq (x 
 comment_again root x xs begins =
     let text = take (place_of_word (codes "-->") (drop 3 xs) + 6) xs in
     elim (cases_lt (place_of_word (codes "-->") (drop 3 xs)) (length (drop 3 xs))) [
-      inl found ↦ comment_again-found x xs (with_roots root (drop (length text) xs)) begins found
-    | inr past ↦ comment_again-past root x xs begins past
+      | inl found ↦ comment_again-found x xs (with_roots root (drop (length text) xs)) begins found
+      | inr past ↦ comment_again-past root x xs begins past
     ]
 
 pieces_tag : (x : ℕ) (xs : Bytes) (found : Option (List Part)) → starts_with nat_eq (x ∷ xs) (codes "<!--") ≡ false → (x == 60 && is_ascii_alphabetic (first xs)) ≡ true → parts_of (after_run is_tag_byte xs) ≡ found → first_piece x xs ≡ tag_by x xs found
@@ -132,7 +130,7 @@ tag_again root is_root x xs parts letter found =
     let starts = name_starts xs tests.1 in
     let begins : name ++ again ≡ first xs ∷ (starts.0 ++ again) = ap (λ (t : Bytes). t ++ again) starts.1 in
     let no_comment : starts_with nat_eq (x ∷ (name ++ again)) (codes "<!--") ≡ false =
-      ap (λ (t : Bytes). starts_with nat_eq (x ∷ t) (codes "<!--")) begins ∙ letter_begins_no_comment x (first xs) (starts.0 ++ again) tests.1 in
+    ap (λ (t : Bytes). starts_with nat_eq (x ∷ t) (codes "<!--")) begins ∙ letter_begins_no_comment x (first xs) (starts.0 ++ again) tests.1 in
     let letter_again : (x == 60 && is_ascii_alphabetic (first (name ++ again))) ≡ true = ap (λ (t : Bytes). x == 60 && is_ascii_alphabetic (first t)) begins ∙ letter in
     let raw_left : drop (length (parts_text rooted) + 1) again ≡ raw ++ more = drop-append-add (parts_text rooted) (62 ∷ (raw ++ more)) 1 in
     let raw_same : raw_text name (drop (length (parts_text rooted) + 1) again) ≡ raw = ap (raw_text name) raw_left ∙ raw_again root name left in
@@ -158,18 +156,18 @@ tag_by_again root is_root x xs (Some parts) begins letter found =
     let left = drop (length (parts_text parts) + 1) (after_run is_tag_byte xs) in
     let raw = raw_text (take_while is_tag_byte xs) left in
     let rest : drop (length (piece_text (tag_by x xs (Some parts)))) (x ∷ xs) ≡ drop (length raw) left =
-      ap (drop (length (piece_text (tag_by x xs (Some parts))))) (tag_same x xs parts found) ∙ drop-append_seam (piece_text (tag_by x xs (Some parts))) (drop (length raw) left) in
+    ap (drop (length (piece_text (tag_by x xs (Some parts))))) (tag_same x xs parts found) ∙ drop-append_seam (piece_text (tag_by x xs (Some parts))) (drop (length raw) left) in
     subst (λ (t : Bytes). let again = piece_text (rooted_piece root (tag_by x xs (Some parts))) ++ with_roots root t in first_piece (first again) (drop 1 again) ≡ rooted_piece root (tag_by x xs (Some parts)))
     (sym rest) (tag_again root is_root x xs parts letter found)
 
 piece_again : (root : Bytes) → IsRoot root → (x : ℕ) (xs : Bytes) → Again root (x ∷ xs) (first_piece x xs)
 piece_again root is_root x xs =
     elim (starts_with nat_eq (x ∷ xs) (codes "<!--")) as (λ b. starts_with nat_eq (x ∷ xs) (codes "<!--") ≡ b → Again root (x ∷ xs) (first_piece x xs)) [
-      true ↦ λ begins. subst (λ (piece : Piece). Again root (x ∷ xs) piece) (sym (pieces_comment x xs begins)) (comment_again root x xs begins)
-    | false ↦ λ begins. elim (x == 60 && is_ascii_alphabetic (first xs)) as (λ b. (x == 60 && is_ascii_alphabetic (first xs)) ≡ b → Again root (x ∷ xs) (first_piece x xs)) [
-        true ↦ λ letter. subst (λ (piece : Piece). Again root (x ∷ xs) piece) (sym (pieces_tag x xs (parts_of (after_run is_tag_byte xs)) begins letter refl))
-          (tag_by_again root is_root x xs (parts_of (after_run is_tag_byte xs)) begins letter refl)
-      | false ↦ λ letter. subst (λ (piece : Piece). Again root (x ∷ xs) piece) (sym (pieces_other x xs begins letter)) (other_again x xs (with_roots root xs) begins letter (follows root xs))
+      | true ↦ λ begins. subst (λ (piece : Piece). Again root (x ∷ xs) piece) (sym (pieces_comment x xs begins)) (comment_again root x xs begins)
+      | false ↦ λ begins. elim (x == 60 && is_ascii_alphabetic (first xs)) as (λ b. (x == 60 && is_ascii_alphabetic (first xs)) ≡ b → Again root (x ∷ xs) (first_piece x xs)) [
+        | true ↦ λ letter. subst (λ (piece : Piece). Again root (x ∷ xs) piece) (sym (pieces_tag x xs (parts_of (after_run is_tag_byte xs)) begins letter refl))
+            (tag_by_again root is_root x xs (parts_of (after_run is_tag_byte xs)) begins letter refl)
+        | false ↦ λ letter. subst (λ (piece : Piece). Again root (x ∷ xs) piece) (sym (pieces_other x xs begins letter)) (other_again x xs (with_roots root xs) begins letter (follows root xs))
       ] refl
     ] refl
 

@@ -1,16 +1,16 @@
 -- The pieces of a text, one after the other.
-use Rattle.std.proofs.Common.{◌≡◌, ℕ, zero, suc, ◌+◌, ◌-◌, ◌<◌, ◌≤◌, min, Bool, true, false, cond, ◌||◌, ◌&&◌, ◌==◌, nat_eq, codes, List, [], ◌∷◌, ◌++◌, Option, Some, None, length, drop, take, arith, refl, sym, ap, ◌∙◌, append_assoc}
+use Rattle.std.proofs.Common.{◌≡◌, ℕ, suc, ◌+◌, ◌-◌, ◌<◌, ◌≤◌, min, true, false, cond, ◌&&◌, ◌==◌, nat_eq, codes, List, [], ◌∷◌, ◌++◌, Some, None, length, drop, take, arith, refl, sym, ap, ◌∙◌, append_assoc}
 use Rattle.std.specs.List.{flat_map, take_while, starts_with, slice_range, prefix_len}
 use Rattle.std.specs.Char.{is_ascii_alphabetic}
-use Rattle.std.proofs.lemmas.List.{append-nil, take_all, take_rest, drop_all, drop-drop, flat_map_more, length-append, length-take, length-take-le, length-drop, take_min}
+use Rattle.std.proofs.lemmas.List.{append-nil, take_all, take_rest, drop-drop, length-append, length-take, length-take-le, length-drop, take_min}
 use Rattle.hk_html.proofs.RunLemmas.{length-run}
 use Rattle.hk_base.specs.Bytes.{Bytes}
 use Rattle.hk_html.specs.declared.scan.Scan.{Scan}
 use Rattle.hk_html.specs.Kind.{first, after_run, is_tag_byte}
-use Rattle.hk_html.specs.Part.{Part, parts_of, parts_text, part_text, part_with_root, part_links}
-use Rattle.hk_html.specs.Piece.{Piece, comment, tag, unfinished, other, first_piece, tag_by, piece_text, piece_links, piece_with_root, pieces, pieces_after, raw_text, has_raw_text, ends_raw_text}
+use Rattle.hk_html.specs.Part.{Part, parts_of, parts_text, part_with_root}
+use Rattle.hk_html.specs.Piece.{comment, tag, unfinished, other, first_piece, tag_by, raw_text, has_raw_text, ends_raw_text}
 use Rattle.hk_html.specs.Place.{place_of, place_of_word}
-use Rattle.hk_html.specs.Scan.{Reads, ReadsParts, ReadsTag, ReadsPiece, ReadsPieces, ahead, piece_ahead, tag_ahead, written, link_values, links_with_root}
+use Rattle.hk_html.specs.Scan.{Reads, ReadsParts, ReadsTag, ReadsPiece, ahead, piece_ahead, tag_ahead, link_values, links_with_root}
 use Rattle.hk_html.proofs.SliceLemmas.{slice_range-add}
 use Rattle.hk_html.proofs.ReadsLemmas.{Reads-ahead, Reads-same, Reads-trans, kept_more}
 
@@ -45,8 +45,8 @@ take_length_take k text = rw (length-take k text) (take_min k text)
 pub raw_text-front : (name text : Bytes) → take (length (raw_text name text)) text ≡ raw_text name text
 raw_text-front name text =
     elim (has_raw_text name) as (λ b. let raw = cond b (take (place_of (ends_raw_text name) text) text) [] in take (length raw) text ≡ raw) [
-      true ↦ take_length_take (place_of (ends_raw_text name) text) text
-    | false ↦ refl
+      | true ↦ take_length_take (place_of (ends_raw_text name) text) text
+      | false ↦ refl
     ]
 
 head_cut : (text : Bytes) (k : ℕ) → 0 < length text → take (1 + k) text ≡ first text ∷ take k (drop 1 text)
@@ -76,7 +76,7 @@ ReadsPiece-unfinished old s1 s2 new name order inside name_is one two body links
     let tag_is : tag_ahead old ≡ unfinished (first (ahead old) ∷ drop 1 (ahead old)) = rw found in
     let bodies : s2.body.now ≡ old.body.now = two.1 ∙ one.body in
     rw tag_is (ReadsPiece-rest old new order inside (body ∙ bodies)
-      (links ∙ kept_more old.links.items s1.links.items s2.links.items one.kept two.2) from (at ∙ ap length bodies))
+    (links ∙ kept_more old.links.items s1.links.items s2.links.items one.kept two.2) from (at ∙ ap length bodies))
 
 -- a finished tag
 pub ReadsPiece-tag : (old s1 s2 s3 new : Scan) (name : Bytes) (parts : List Part) (raw : ℕ) → 0 < length (ahead old)
@@ -95,15 +95,15 @@ ReadsPiece-tag old s1 s2 s3 new name parts raw some name_is one parts_are two so
     let head_is : take (1 + length name) (ahead old) ≡ x ∷ name = head_cut (ahead old) (length name) some ∙ ap (λ n. x ∷ n) (rw size (sym name_is)) in
     let found : parts_of (after_run is_tag_byte xs) ≡ Some parts = rw (← after) parts_are in
     let third : ahead s3 ≡ drop (length (parts_text parts) + 1) (after_run is_tag_byte xs) =
-      Reads-ahead s2 s3 _ _ _ three ∙ rw (Reads-ahead s1 s2 _ _ _ two, after) (drop-drop 1 (length (parts_text parts)) (after_run is_tag_byte xs)) in
+    Reads-ahead s2 s3 _ _ _ three ∙ rw (Reads-ahead s1 s2 _ _ _ two, after) (drop-drop 1 (length (parts_text parts)) (after_run is_tag_byte xs)) in
     let tag_is : tag_ahead old ≡ tag (x ∷ name) parts (raw_text name (ahead s3)) = rw (found, name_is, third) in
     let close_is = take_one (ahead s2) 62 some_end end in
     let raw_front : take raw (ahead s3) ≡ raw_text name (ahead s3) = rw raw_is (raw_text-front name (ahead s3)) in
     let joined = Reads-trans (Reads-trans (Reads-trans one two) three) four in
     rw tag_is (Reads-same _ _ _ joined
-      (rw raw_is (simp length-append (omega arith)))
-      (λ root. rw (head_is, close_is, raw_front) (tag_text (x ∷ name) (flat_map (part_with_root root) parts) (62 ∷ []) (raw_text name (ahead s3))))
-      (simp append-nil))
+    (rw raw_is (simp length-append (omega arith)))
+    (λ root. rw (head_is, close_is, raw_front) (tag_text (x ∷ name) (flat_map (part_with_root root) parts) (62 ∷ []) (raw_text name (ahead s3))))
+    (simp append-nil))
 
 comment_is : (text : Bytes) (count : ℕ) → 0 < length text → starts_with nat_eq text (codes "<!--") ≡ true
     → count ≡ min (place_of_word (codes "-->") (drop 4 text) + 7) (length text)

@@ -1,19 +1,19 @@
 -- Raw text ends where it ended.
-use Rattle.std.proofs.Common.{◌≡◌, ℕ, zero, suc, ◌+◌, ◌-◌, ◌<◌, ◌≤◌, Bool, true, false, cond, not, ◌||◌, ◌&&◌, ◌==◌, nat_eq, if◌then◌else◌, List, [], ◌∷◌, ◌++◌, map, codes, length, drop, take, arith, refl, sym, ap, subst, ◌∙◌, append_assoc, inl, inr, ◌⊎◌}
+use Rattle.std.proofs.Common.{◌≡◌, ℕ, suc, ◌<◌, ◌≤◌, Bool, true, false, not, ◌&&◌, ◌==◌, nat_eq, [], ◌∷◌, ◌++◌, map, codes, length, drop, take, arith, refl, sym, ap, subst, ◌∙◌, inl, inr}
 use Rattle.std.specs.List.{take_while, list_all, starts_with}
 use Rattle.std.specs.Char.{to_ascii_lowercase}
-use Rattle.std.specs.Str.{str_eq_ignore_ascii_case, bytes_eq}
+use Rattle.std.specs.Str.{str_eq_ignore_ascii_case}
 use Rattle.std.proofs.lemmas.Bool.{eqb-true, eqb-false, or_cases, and_parts, not-true, cases_lt}
-use Rattle.std.proofs.lemmas.List.{append-nil, take-append-drop, length-take-le, take_all, drop_all, take_at}
+use Rattle.std.proofs.lemmas.List.{append-nil, take-append-drop, length-take-le, take_all, drop_all}
 use Rattle.std.proofs.lemmas.Slice.Eq.{bytes_eq-Decides}
 use Rattle.std.proofs.Math.Seq.{take-append_seam}
 use Rattle.hk_base.specs.Bytes.{Bytes}
 use Rattle.hk_html.specs.Kind.{is_tag_byte}
-use Rattle.hk_html.specs.Piece.{other, first_piece, raw_text, has_raw_text, ends_raw_text}
+use Rattle.hk_html.specs.Piece.{raw_text, has_raw_text, ends_raw_text}
 use Rattle.hk_html.specs.Place.{place_of}
 use Rattle.hk_html.specs.Relative.{with_roots}
 use Rattle.hk_html.proofs.AgainLemmas.{run-yes, run-no}
-use Rattle.hk_html.proofs.PlaceLemmas.{place_of-yes, place_of-no, place_of-le}
+use Rattle.hk_html.proofs.PlaceLemmas.{place_of-yes, place_of-no}
 use Rattle.hk_html.proofs.FollowLemmas.{Follows, follows, plain_piece, place_of-found}
 
 -- a run without `<` is the same run in a text that follows
@@ -22,12 +22,12 @@ run_follows p [] again same plain = rw same
 run_follows p (x ∷ xs) again same plain =
     ap (λ (t : Bytes). take_while p t) same.1
     ∙ elim (p x) as (λ b. p x ≡ b → take_while p (x ∷ same.0) ≡ take_while p (x ∷ xs)) [
-      true ↦ λ e.
-        let run = run-yes p x xs e in
-        let tests = and_parts (not (x == 60)) (list_all (λ b. not (b == 60)) (take_while p xs)) (rw run at plain) in
-        let plain_first : x ≡ 60 → ⊥ = eqb-false x 60 (not-true (x == 60) tests.0) in
-        run-yes p x same.0 e ∙ ap (λ more. x ∷ more) (run_follows p xs same.0 (same.2 (plain_piece x xs plain_first)) tests.1) ∙ sym run
-    | false ↦ λ e. run-no p x same.0 e ∙ sym (run-no p x xs e)
+      | true ↦ λ e.
+          let run = run-yes p x xs e in
+          let tests = and_parts (not (x == 60)) (list_all (λ b. not (b == 60)) (take_while p xs)) (rw run at plain) in
+          let plain_first : x ≡ 60 → ⊥ = eqb-false x 60 (not-true (x == 60) tests.0) in
+          run-yes p x same.0 e ∙ ap (λ more. x ∷ more) (run_follows p xs same.0 (same.2 (plain_piece x xs plain_first)) tests.1) ∙ sym run
+      | false ↦ λ e. run-no p x same.0 e ∙ sym (run-no p x xs e)
     ] refl
 
 lower_plain : (text : Bytes) → list_all (λ b. not (b == 60)) (map to_ascii_lowercase text) ≡ true → list_all (λ b. not (b == 60)) text ≡ true
@@ -35,8 +35,8 @@ lower_plain [] plain = refl
 lower_plain (x ∷ xs) plain =
     let tests = and_parts (not (to_ascii_lowercase x == 60)) (list_all (λ b. not (b == 60)) (map to_ascii_lowercase xs)) plain in
     elim (x == 60) as (λ b. (x == 60) ≡ b → (not b && list_all (λ b. not (b == 60)) xs) ≡ true) [
-      true ↦ λ e. let x_is = eqb-true x 60 e in let bad : not (to_ascii_lowercase 60 == 60) ≡ true = rw x_is at tests.0 in cc
-    | false ↦ λ e. lower_plain xs tests.1
+      | true ↦ λ e. let x_is = eqb-true x 60 e in let bad : not (to_ascii_lowercase 60 == 60) ≡ true = rw x_is at tests.0 in cc
+      | false ↦ λ e. lower_plain xs tests.1
     ] refl
 
 -- the names before raw text have no `<`, and no name that is the same has one
@@ -44,8 +44,8 @@ name_plain : (name run : Bytes) → has_raw_text name ≡ true → str_eq_ignore
 name_plain name run raw same =
     let lower : map to_ascii_lowercase run ≡ map to_ascii_lowercase name = (bytes_eq-Decides (map to_ascii_lowercase run) (map to_ascii_lowercase name)).0 same in
     lower_plain run (elim (or_cases (str_eq_ignore_ascii_case name (codes "script")) (str_eq_ignore_ascii_case name (codes "style")) raw) [
-      inl e ↦ rw (lower, (bytes_eq-Decides (map to_ascii_lowercase name) (codes "script")).0 e)
-    | inr e ↦ rw (lower, (bytes_eq-Decides (map to_ascii_lowercase name) (codes "style")).0 e)
+      | inl e ↦ rw (lower, (bytes_eq-Decides (map to_ascii_lowercase name) (codes "script")).0 e)
+      | inr e ↦ rw (lower, (bytes_eq-Decides (map to_ascii_lowercase name) (codes "style")).0 e)
     ])
 
 -- a text that begins with `</`
@@ -76,8 +76,8 @@ run_same : (front rest again : Bytes) → take_while is_tag_byte (front ++ (60 �
 run_same [] rest again = refl
 run_same (x ∷ xs) rest again =
     elim (is_tag_byte x) as (λ b. is_tag_byte x ≡ b → take_while is_tag_byte (x ∷ (xs ++ (60 ∷ (47 ∷ again)))) ≡ take_while is_tag_byte (x ∷ (xs ++ (60 ∷ (47 ∷ rest))))) [
-      true ↦ λ e. run-yes is_tag_byte x (xs ++ (60 ∷ (47 ∷ again))) e ∙ ap (λ more. x ∷ more) (run_same xs rest again) ∙ sym (run-yes is_tag_byte x (xs ++ (60 ∷ (47 ∷ rest))) e)
-    | false ↦ λ e. run-no is_tag_byte x (xs ++ (60 ∷ (47 ∷ again))) e ∙ sym (run-no is_tag_byte x (xs ++ (60 ∷ (47 ∷ rest))) e)
+      | true ↦ λ e. run-yes is_tag_byte x (xs ++ (60 ∷ (47 ∷ again))) e ∙ ap (λ more. x ∷ more) (run_same xs rest again) ∙ sym (run-yes is_tag_byte x (xs ++ (60 ∷ (47 ∷ rest))) e)
+      | false ↦ λ e. run-no is_tag_byte x (xs ++ (60 ∷ (47 ∷ again))) e ∙ sym (run-no is_tag_byte x (xs ++ (60 ∷ (47 ∷ rest))) e)
     ] refl
 
 -- whether raw text ends before such a text doesn't hang on what follows
@@ -92,22 +92,22 @@ place_same name [] rest again ends at = place_of-found (ends_raw_text name) (60 
 place_same name (x ∷ xs) rest again ends at =
     let test = ends_raw_text name in
     elim (test (x ∷ (xs ++ (60 ∷ (47 ∷ rest))))) as (λ b. test (x ∷ (xs ++ (60 ∷ (47 ∷ rest)))) ≡ b → place_of test (x ∷ (xs ++ (60 ∷ (47 ∷ again)))) ≡ suc (length xs)) [
-      true ↦ λ e. absurd (omega (arith, at, place_of-yes test x (xs ++ (60 ∷ (47 ∷ rest))) e))
-    | false ↦ λ e.
-        let inner : place_of test (xs ++ (60 ∷ (47 ∷ rest))) ≡ length xs = omega (arith, at, place_of-no test x (xs ++ (60 ∷ (47 ∷ rest))) e) in
-        let step = place_of-no test x (xs ++ (60 ∷ (47 ∷ again))) (ends_same name x xs rest again ∙ e) in
-        omega (arith, step, place_same name xs rest again ends inner)
+      | true ↦ λ e. absurd (omega (arith, at, place_of-yes test x (xs ++ (60 ∷ (47 ∷ rest))) e))
+      | false ↦ λ e.
+          let inner : place_of test (xs ++ (60 ∷ (47 ∷ rest))) ≡ length xs = omega (arith, at, place_of-no test x (xs ++ (60 ∷ (47 ∷ rest))) e) in
+          let step = place_of-no test x (xs ++ (60 ∷ (47 ∷ again))) (ends_same name x xs rest again ∙ e) in
+          omega (arith, step, place_same name xs rest again ends inner)
     ] refl
 
 place_found : (test : Bytes → Bool) (text : Bytes) → place_of test text < length text → test (drop (place_of test text) text) ≡ true
 place_found test [] found = absurd (omega arith)
 place_found test (x ∷ xs) found =
     elim (test (x ∷ xs)) as (λ b. test (x ∷ xs) ≡ b → test (drop (place_of test (x ∷ xs)) (x ∷ xs)) ≡ true) [
-      true ↦ λ e. rw (place_of-yes test x xs e) e
-    | false ↦ λ e.
-        let at = place_of-no test x xs e in
-        let next : place_of test (x ∷ xs) ≡ suc (place_of test xs) = omega (arith, at) in
-        rw next (place_found test xs (omega (arith, at, found)))
+      | true ↦ λ e. rw (place_of-yes test x xs e) e
+      | false ↦ λ e.
+          let at = place_of-no test x xs e in
+          let next : place_of test (x ∷ xs) ≡ suc (place_of test xs) = omega (arith, at) in
+          rw next (place_found test xs (omega (arith, at, found)))
     ] refl
 
 raw_text-none : (name text : Bytes) → has_raw_text name ≡ false → raw_text name text ≡ []
@@ -148,14 +148,14 @@ raw_again-some : (root name text : Bytes) → has_raw_text name ≡ true
     → let raw = take (place_of (ends_raw_text name) text) text in raw_text name (raw ++ with_roots root (drop (length raw) text)) ≡ raw
 raw_again-some root name text has =
     elim (cases_lt (place_of (ends_raw_text name) text) (length text)) [
-      inl found ↦ raw_again-found root name text has found
-    | inr past ↦ raw_again-past root name text has past
+      | inl found ↦ raw_again-found root name text has found
+      | inr past ↦ raw_again-past root name text has past
     ]
 
 -- raw text and what follows it, read again
 pub raw_again : (root name text : Bytes) → raw_text name (raw_text name text ++ with_roots root (drop (length (raw_text name text)) text)) ≡ raw_text name text
 raw_again root name text =
     elim (has_raw_text name) as (λ b. has_raw_text name ≡ b → raw_text name (raw_text name text ++ with_roots root (drop (length (raw_text name text)) text)) ≡ raw_text name text) [
-      true ↦ λ has. subst (λ (raw : Bytes). raw_text name (raw ++ with_roots root (drop (length raw) text)) ≡ raw) (sym (raw_text-some name text has)) (raw_again-some root name text has)
-    | false ↦ λ none. raw_text-none name (raw_text name text ++ with_roots root (drop (length (raw_text name text)) text)) none ∙ sym (raw_text-none name text none)
+      | true ↦ λ has. subst (λ (raw : Bytes). raw_text name (raw ++ with_roots root (drop (length raw) text)) ≡ raw) (sym (raw_text-some name text has)) (raw_again-some root name text has)
+      | false ↦ λ none. raw_text-none name (raw_text name text ++ with_roots root (drop (length (raw_text name text)) text)) none ∙ sym (raw_text-none name text none)
     ] refl

@@ -1,13 +1,13 @@
 -- Reading on.
-use Rattle.std.proofs.Common.{◌≡◌, ℕ, ◌+◌, ◌-◌, ◌≤◌, Bool, true, false, cond, List, [], ◌∷◌, ◌++◌, length, drop, take, arith, refl, sym, ap, ◌∙◌, append_assoc}
-use Rattle.std.proofs.lemmas.List.{append-nil, take_all, drop-drop, take-take, length-take, length-append, take_at, drop_at}
-use Rattle.std.proofs.Math.Seq.{take-append_seam, drop-append_seam, take-append-add, drop-append-add}
+use Rattle.std.proofs.Common.{◌≡◌, ℕ, ◌+◌, ◌≤◌, true, false, List, [], ◌∷◌, ◌++◌, length, drop, take, arith, refl, sym, ap, ◌∙◌, append_assoc}
+use Rattle.std.proofs.lemmas.List.{drop-drop, take-take, length-take, length-append, take_at, drop_at}
+use Rattle.std.proofs.Math.Seq.{take-append_seam, drop-append_seam}
 use Rattle.hk_base.specs.Bytes.{Bytes}
 use Rattle.hk_html.specs.declared.scan.Scan.{Scan}
 use Rattle.hk_html.specs.declared.attribute.Sizes.{Sizes}
 use Rattle.hk_html.specs.declared.attribute.Attribute.TheVariants.{Bare, Valued}
 use Rattle.hk_html.specs.Read.{sizes_of}
-use Rattle.hk_html.specs.Part.{Part, mark, bare, valued, part_text, part_with_root, part_links, with_root, is_link}
+use Rattle.hk_html.specs.Part.{Part, mark, bare, valued, part_text, with_root, is_link}
 use Rattle.hk_html.specs.Scan.{Reads, ReadsPart, ahead, written, link_values}
 
 pub Reads-ahead : (old new : Scan) (count : ℕ) (texts : Bytes → Bytes) (values : List Bytes) → Reads old new count texts values → ahead new ≡ drop count (ahead old)
@@ -54,8 +54,8 @@ after_before name between value close rest text e =
 pub ReadsPart-link : (old mid new : Scan) (name between value close rest : Bytes) → ahead old ≡ (name ++ (between ++ (value ++ close))) ++ rest
     → is_link name ≡ true
     → Reads old mid (length name + length between + length value)
-        (λ root. take (length name + length between) (ahead old) ++ with_root root (take (length value) (drop (length name + length between) (ahead old))))
-        (take (length value) (drop (length name + length between) (ahead old)) ∷ [])
+    (λ root. take (length name + length between) (ahead old) ++ with_root root (take (length value) (drop (length name + length between) (ahead old))))
+    (take (length value) (drop (length name + length between) (ahead old)) ∷ [])
     → Reads mid new (length close) (λ root. take (length close) (ahead mid)) []
     → ReadsPart old new (valued name between value close)
 ReadsPart-link old mid new name between value close rest text link one two =
@@ -91,8 +91,8 @@ ReadsPart-bare old new text rest e one = Reads-same _ _ _ one refl (λ root. rw 
 pub ReadsPart-link_of : (old mid new : Scan) (sizes : Sizes) (part : Part) (rest : Bytes) → ahead old ≡ part_text part ++ rest → Valued sizes ≡ sizes_of part
     → is_link (take sizes.name (ahead old)) ≡ true
     → Reads old mid (sizes.name + sizes.between + sizes.value)
-        (λ root. take (sizes.name + sizes.between) (ahead old) ++ with_root root (take sizes.value (drop (sizes.name + sizes.between) (ahead old))))
-        (take sizes.value (drop (sizes.name + sizes.between) (ahead old)) ∷ [])
+    (λ root. take (sizes.name + sizes.between) (ahead old) ++ with_root root (take sizes.value (drop (sizes.name + sizes.between) (ahead old))))
+    (take sizes.value (drop (sizes.name + sizes.between) (ahead old)) ∷ [])
     → Reads mid new sizes.close (λ root. take sizes.close (ahead mid)) []
     → ReadsPart old new part
 ReadsPart-link_of old mid new sizes (mark b) rest text is link one two = cc

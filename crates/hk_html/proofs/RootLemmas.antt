@@ -1,5 +1,5 @@
 -- One level more.
-use Rattle.std.proofs.Common.{◌≡◌, ℕ, zero, suc, ◌+◌, ◌≤◌, codes, ◌∷◌, ◌++◌, List, replicate, arith, refl, ap}
+use Rattle.std.proofs.Common.{◌≡◌, ℕ, zero, suc, ◌+◌, ◌≤◌, codes, ◌++◌, replicate, arith, refl, ap}
 use Rattle.std.specs.List.{join_with_byte}
 use Rattle.hk_html.specs.Root.{root_at}
 

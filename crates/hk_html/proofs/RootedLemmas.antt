@@ -1,15 +1,14 @@
 -- The parts of a tag with a root in its URLs, read again.
-use Rattle.std.proofs.Common.{◌≡◌, ℕ, zero, suc, ◌+◌, ◌-◌, ◌<◌, ◌≤◌, Bool, true, false, cond, not, ◌||◌, ◌&&◌, ◌==◌, if◌then◌else◌, List, [], ◌∷◌, ◌++◌, map, Option, Some, None, codes, replicate, length, drop, take, arith, refl, sym, ap, subst, ◌∙◌, append_assoc, inl, inr}
-use Rattle.std.specs.List.{prefix_len, take_while, list_all, flat_map, join_with_byte}
-use Rattle.std.specs.Option.{option_map}
+use Rattle.std.proofs.Common.{◌≡◌, ℕ, zero, suc, ◌<◌, ◌≤◌, Bool, true, false, cond, ◌||◌, ◌&&◌, ◌==◌, if◌then◌else◌, List, [], ◌∷◌, ◌++◌, map, Some, codes, replicate, length, drop, take, arith, refl, sym, ap, subst, ◌∙◌, append_assoc, inl, inr}
+use Rattle.std.specs.List.{take_while, list_all, join_with_byte}
 use Rattle.std.proofs.lemmas.Bool.{eqb-true, eqb-false, or_cases}
-use Rattle.std.proofs.lemmas.List.{append-nil, length-append}
+use Rattle.std.proofs.lemmas.List.{length-append}
 use Rattle.std.proofs.Math.Seq.{drop-append_seam}
 use Rattle.hk_base.specs.Bytes.{Bytes}
 use Rattle.hk_html.specs.Kind.{is_white, is_attribute_byte, is_value_byte, is_quote, is_other, first, after_run}
-use Rattle.hk_html.specs.Part.{Part, mark, bare, valued, value_part, named_part, attribute, first_part, part_text, parts_of, parts_text, is_link, is_rooted, with_root, part_with_root, part_links}
+use Rattle.hk_html.specs.Part.{Part, mark, bare, valued, value_part, named_part, attribute, first_part, part_text, parts_of, parts_text, is_link, is_rooted, with_root}
 use Rattle.hk_html.specs.Root.{root_at}
-use Rattle.hk_html.proofs.AgainLemmas.{IsPart, marks, bares, quotes, opens, Stops, Cuts, part_cut, part_again}
+use Rattle.hk_html.proofs.AgainLemmas.{IsPart, marks, bares, quotes, opens, Stops, part_cut, part_again}
 use Rattle.hk_html.proofs.JoinLemmas.{one_before, shorter}
 use Rattle.hk_html.proofs.PartsLemmas.{parts_of-more, parts_of-ahead, first_part-some}
 
@@ -23,8 +22,8 @@ pub record IsRoot (root : Bytes) : Type 0 where
 quote_is : (q : ℕ) (P : ℕ → Type 0) → is_quote q ≡ true → P 34 → P 39 → P q
 quote_is q P quote double single =
     elim (or_cases (q == 34) (q == 39) quote) [
-      inl e ↦ subst P (sym (eqb-true q 34 e)) double
-    | inr e ↦ subst P (sym (eqb-true q 39 e)) single
+      | inl e ↦ subst P (sym (eqb-true q 34 e)) double
+      | inr e ↦ subst P (sym (eqb-true q 39 e)) single
     ]
 
 joined_all : (p : ℕ → Bool) (level : ℕ) → p 46 ≡ true → p 47 ≡ true → list_all p (join_with_byte 47 (replicate (suc level) (codes ".."))) ≡ true
@@ -48,8 +47,8 @@ list_all-append : (p : ℕ → Bool) (xs ys : Bytes) → list_all p xs ≡ true 
 list_all-append p [] ys one two = two
 list_all-append p (x ∷ xs) ys one two =
     elim (p x) as (λ b. (b && list_all p xs) ≡ true → (b && list_all p (xs ++ ys)) ≡ true) [
-      true ↦ λ more. list_all-append p xs ys more two
-    | false ↦ λ more. cc
+      | true ↦ λ more. list_all-append p xs ys more two
+      | false ↦ λ more. cc
     ] one
 
 -- a part with the root in its URL
@@ -84,29 +83,29 @@ IsPart-rooted root is_root (opens x name white gap value f other names whites ga
     either_value (λ value. IsPart (valued (x ∷ name) (white ++ 61 ∷ gap) value []) f) (is_link (x ∷ name)) (is_rooted value) root value
     (opens x name white gap value f other names whites gaps starts quote values stop)
     (opens x name white gap (root ++ value) f other names whites gaps (root_starts is_white root value is_root.more is_root.same refl f)
-      (root_unquoted root value is_root.more is_root.same f) (list_all-append is_value_byte root value is_root.values values) stop)
+    (root_unquoted root value is_root.more is_root.same f) (list_all-append is_value_byte root value is_root.values values) stop)
 
 value_head : (root : Bytes) (x : ℕ) (name between text : Bytes) → let part = rooted_part root (value_part (x ∷ name) between text) in part_text part ≡ x ∷ drop 1 (part_text part)
 value_head root x name between text =
     elim (is_quote (first text)) as (λ b. let part = rooted_part root (cond b
-      (valued (x ∷ name) (between ++ first text ∷ []) (take_while (is_other (first text)) (drop 1 text)) (take 1 (after_run (is_other (first text)) (drop 1 text))))
-      (valued (x ∷ name) between (take_while is_value_byte text) [])) in part_text part ≡ x ∷ drop 1 (part_text part)) [ true ↦ refl | false ↦ refl ]
+    (valued (x ∷ name) (between ++ first text ∷ []) (take_while (is_other (first text)) (drop 1 text)) (take 1 (after_run (is_other (first text)) (drop 1 text))))
+    (valued (x ∷ name) between (take_while is_value_byte text) [])) in part_text part ≡ x ∷ drop 1 (part_text part)) [ true ↦ refl | false ↦ refl ]
 
 named_head : (root : Bytes) (x : ℕ) (name white text : Bytes) → let part = rooted_part root (named_part (x ∷ name) white text) in part_text part ≡ x ∷ drop 1 (part_text part)
 named_head root x name white text =
     elim (first text == 61) as (λ b. let part = rooted_part root (cond b
-      (value_part (x ∷ name) (white ++ 61 ∷ take_while is_white (drop 1 text)) (after_run is_white (drop 1 text)))
-      (bare ((x ∷ name) ++ white))) in part_text part ≡ x ∷ drop 1 (part_text part)) [
-      true ↦ value_head root x name (white ++ 61 ∷ take_while is_white (drop 1 text)) (after_run is_white (drop 1 text))
-    | false ↦ refl
+    (value_part (x ∷ name) (white ++ 61 ∷ take_while is_white (drop 1 text)) (after_run is_white (drop 1 text)))
+    (bare ((x ∷ name) ++ white))) in part_text part ≡ x ∷ drop 1 (part_text part)) [
+      | true ↦ value_head root x name (white ++ 61 ∷ take_while is_white (drop 1 text)) (after_run is_white (drop 1 text))
+      | false ↦ refl
     ]
 
 -- a part begins with the same byte as before
 pub part_head : (root : Bytes) (x : ℕ) (xs : Bytes) → let part = rooted_part root (first_part x xs) in part_text part ≡ x ∷ drop 1 (part_text part)
 part_head root x xs =
     elim (is_white x || x == 47) as (λ b. let part = rooted_part root (cond b (mark x) (attribute x xs)) in part_text part ≡ x ∷ drop 1 (part_text part)) [
-      true ↦ refl
-    | false ↦ named_head root x (take_while is_attribute_byte xs) (take_while is_white (after_run is_attribute_byte xs)) (after_run is_white (after_run is_attribute_byte xs))
+      | true ↦ refl
+      | false ↦ named_head root x (take_while is_attribute_byte xs) (take_while is_white (after_run is_attribute_byte xs)) (after_run is_white (after_run is_attribute_byte xs))
     ]
 
 parts_of-joined : (part : Part) (x : ℕ) (text rest : Bytes) (more : List Part) → part_text part ≡ x ∷ text → (x ≡ 62 → ⊥)
@@ -129,16 +128,16 @@ pub parts_head : (root : Bytes) (f : ℕ) (text : Bytes) (parts : List Part) (re
     → parts_text (rooted_parts root parts) ++ (62 ∷ rest) ≡ f ∷ drop 1 (parts_text (rooted_parts root parts) ++ (62 ∷ rest))
 parts_head root f text parts rest found =
     elim (f == 62) as (λ b. (f == 62) ≡ b → parts_text (rooted_parts root parts) ++ (62 ∷ rest) ≡ f ∷ drop 1 (parts_text (rooted_parts root parts) ++ (62 ∷ rest))) [
-      true ↦ λ end.
-        let none : Some [] ≡ Some parts = rw end at found in
-        let same : [] ≡ parts = cc in
-        subst (λ (all : List Part). parts_text (rooted_parts root all) ++ (62 ∷ rest) ≡ f ∷ drop 1 (parts_text (rooted_parts root all) ++ (62 ∷ rest))) same
-        (ap (λ x. x ∷ rest) (sym (eqb-true f 62 end)))
-    | false ↦ λ ongoing.
-        let part = first_part f text in
-        let step = one_before (parts_of (drop (length (part_text part)) (f ∷ text))) part parts (sym (parts_of-more f text (eqb-false f 62 ongoing)) ∙ found) in
-        subst (λ (all : List Part). parts_text (rooted_parts root all) ++ (62 ∷ rest) ≡ f ∷ drop 1 (parts_text (rooted_parts root all) ++ (62 ∷ rest))) (sym step.2)
-        (headed f (part_text (rooted_part root part)) (parts_text (rooted_parts root step.0)) (62 ∷ rest) (drop 1 (part_text (rooted_part root part))) (part_head root f text))
+      | true ↦ λ end.
+          let none : Some [] ≡ Some parts = rw end at found in
+          let same : [] ≡ parts = cc in
+          subst (λ (all : List Part). parts_text (rooted_parts root all) ++ (62 ∷ rest) ≡ f ∷ drop 1 (parts_text (rooted_parts root all) ++ (62 ∷ rest))) same
+          (ap (λ x. x ∷ rest) (sym (eqb-true f 62 end)))
+      | false ↦ λ ongoing.
+          let part = first_part f text in
+          let step = one_before (parts_of (drop (length (part_text part)) (f ∷ text))) part parts (sym (parts_of-more f text (eqb-false f 62 ongoing)) ∙ found) in
+          subst (λ (all : List Part). parts_text (rooted_parts root all) ++ (62 ∷ rest) ≡ f ∷ drop 1 (parts_text (rooted_parts root all) ++ (62 ∷ rest))) (sym step.2)
+          (headed f (part_text (rooted_part root part)) (parts_text (rooted_parts root step.0)) (62 ∷ rest) (drop 1 (part_text (rooted_part root part))) (part_head root f text))
     ] refl
 
 again_within : (root : Bytes) → IsRoot root → (fuel : ℕ) (text : Bytes) (parts : List Part) → length text ≤ fuel → parts_of text ≡ Some parts → (rest : Bytes)
@@ -147,27 +146,27 @@ again_within root is_root fuel [] parts short found rest = cc
 again_within root is_root zero (x ∷ xs) parts short found rest = absurd (omega arith)
 again_within root is_root (suc fuel) (x ∷ xs) parts short found rest =
     elim (x == 62) as (λ b. (x == 62) ≡ b → parts_of (parts_text (rooted_parts root parts) ++ (62 ∷ rest)) ≡ Some (rooted_parts root parts)) [
-      true ↦ λ end.
-        let none : Some [] ≡ Some parts = rw end at found in
-        let same : [] ≡ parts = cc in
-        subst (λ (all : List Part). parts_of (parts_text (rooted_parts root all) ++ (62 ∷ rest)) ≡ Some (rooted_parts root all)) same refl
-    | false ↦ λ ongoing.
-        let part = first_part x xs in
-        let rooted = rooted_part root part in
-        let size = length (part_text part) in
-        let some : 0 < size = omega (arith, first_part-some x xs) in
-        let step = one_before (parts_of (drop size (x ∷ xs))) part parts (sym (parts_of-more x xs (eqb-false x 62 ongoing)) ∙ found) in
-        let cut = part_cut x xs in
-        let left : drop size (x ∷ xs) ≡ cut.rest = ap (drop size) cut.same ∙ drop-append_seam (part_text part) cut.rest in
-        let next = some_text (drop size (x ∷ xs)) step.0 step.1 in
-        let is_part = IsPart-rooted root is_root (cut.is_part next.0 next.1 (sym left ∙ next.2)) in
-        let after = parts_text (rooted_parts root step.0) ++ (62 ∷ rest) in
-        let head : after ≡ next.0 ∷ drop 1 after = parts_head root next.0 next.1 step.0 rest (ap parts_of (sym next.2) ∙ step.1) in
-        let same = subst (λ (t : Bytes). first_part (first (part_text rooted ++ t)) (drop 1 (part_text rooted ++ t)) ≡ rooted) (sym head) (part_again (drop 1 after) is_part) in
-        let more = again_within root is_root fuel (drop size (x ∷ xs)) step.0 (shorter (x ∷ xs) size fuel short some) step.1 rest in
-        subst (λ (all : List Part). parts_of (parts_text (rooted_parts root all) ++ (62 ∷ rest)) ≡ Some (rooted_parts root all)) (sym step.2)
-        (ap parts_of (append_assoc (part_text rooted) (parts_text (rooted_parts root step.0)) (62 ∷ rest))
-        ∙ parts_of-joined rooted x (drop 1 (part_text rooted)) after (rooted_parts root step.0) (part_head root x xs) (eqb-false x 62 ongoing) same more)
+      | true ↦ λ end.
+          let none : Some [] ≡ Some parts = rw end at found in
+          let same : [] ≡ parts = cc in
+          subst (λ (all : List Part). parts_of (parts_text (rooted_parts root all) ++ (62 ∷ rest)) ≡ Some (rooted_parts root all)) same refl
+      | false ↦ λ ongoing.
+          let part = first_part x xs in
+          let rooted = rooted_part root part in
+          let size = length (part_text part) in
+          let some : 0 < size = omega (arith, first_part-some x xs) in
+          let step = one_before (parts_of (drop size (x ∷ xs))) part parts (sym (parts_of-more x xs (eqb-false x 62 ongoing)) ∙ found) in
+          let cut = part_cut x xs in
+          let left : drop size (x ∷ xs) ≡ cut.rest = ap (drop size) cut.same ∙ drop-append_seam (part_text part) cut.rest in
+          let next = some_text (drop size (x ∷ xs)) step.0 step.1 in
+          let is_part = IsPart-rooted root is_root (cut.is_part next.0 next.1 (sym left ∙ next.2)) in
+          let after = parts_text (rooted_parts root step.0) ++ (62 ∷ rest) in
+          let head : after ≡ next.0 ∷ drop 1 after = parts_head root next.0 next.1 step.0 rest (ap parts_of (sym next.2) ∙ step.1) in
+          let same = subst (λ (t : Bytes). first_part (first (part_text rooted ++ t)) (drop 1 (part_text rooted ++ t)) ≡ rooted) (sym head) (part_again (drop 1 after) is_part) in
+          let more = again_within root is_root fuel (drop size (x ∷ xs)) step.0 (shorter (x ∷ xs) size fuel short some) step.1 rest in
+          subst (λ (all : List Part). parts_of (parts_text (rooted_parts root all) ++ (62 ∷ rest)) ≡ Some (rooted_parts root all)) (sym step.2)
+          (ap parts_of (append_assoc (part_text rooted) (parts_text (rooted_parts root step.0)) (62 ∷ rest))
+          ∙ parts_of-joined rooted x (drop 1 (part_text rooted)) after (rooted_parts root step.0) (part_head root x xs) (eqb-false x 62 ongoing) same more)
     ] refl
 
 -- finished parts are read again, whatever comes after their `>`

@@ -1,7 +1,7 @@
 -- What one step of a scan reads.
-use Rattle.std.proofs.Common.{◌≡◌, ℕ, ◌+◌, ◌-◌, ◌≤◌, List, [], ◌∷◌, ◌++◌, map, length, drop, take, arith, refl, sym, ap, ◌∙◌, append_assoc}
-use Rattle.std.specs.List.{flat_map, slice_range}
-use Rattle.std.proofs.lemmas.List.{flat_map_more, append-nil, take_all, take_at, map_push}
+use Rattle.std.proofs.Common.{◌≡◌, ℕ, ◌+◌, ◌≤◌, List, [], ◌∷◌, ◌++◌, drop, take, sym, ◌∙◌, append_assoc}
+use Rattle.std.specs.List.{slice_range}
+use Rattle.std.proofs.lemmas.List.{flat_map_more, append-nil, map_push}
 use Rattle.hk_html.specs.declared.scan.Link.{Link}
 use Rattle.hk_html.specs.Part.{with_root}
 use Rattle.hk_html.specs.Scan.{link_with_root, links_with_root, link_values}
@@ -19,7 +19,7 @@ written_link root body links link from at before value order first second =
     let more = sym (flat_map_more (link_with_root root) [] links link) in
     rw (slice_range-none body (at + before + value), append-nil (links_with_root root (links ++ link ∷ [])))
     (more ∙ rw (first, second, slice_range-from body at before value, slice_range-add body from at before order)
-      (simp append_assoc))
+    (simp append_assoc))
 
 pub values_link : (body : List ℕ) (links : List Link) (link : Link) (at before value : ℕ) → link.value.now ≡ slice_range body (at + before) (at + before + value)
     → link_values (links ++ link ∷ []) ≡ link_values links ++ take value (drop before (drop at body)) ∷ []

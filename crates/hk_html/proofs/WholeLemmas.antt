@@ -1,17 +1,17 @@
 -- The pieces of a whole text.
-use Rattle.std.proofs.Common.{◌≡◌, ℕ, zero, suc, ◌+◌, ◌-◌, ◌<◌, ◌≤◌, Bool, true, false, cond, ◌||◌, ◌&&◌, ◌==◌, nat_eq, codes, List, [], ◌∷◌, ◌++◌, Option, Some, None, length, drop, take, arith, refl, sym, ap, ◌∙◌, append_assoc}
-use Rattle.std.specs.List.{flat_map, take_while, starts_with, slice_range}
+use Rattle.std.proofs.Common.{◌≡◌, ℕ, zero, suc, ◌+◌, ◌-◌, ◌<◌, ◌≤◌, true, false, cond, ◌&&◌, ◌==◌, nat_eq, codes, List, [], ◌∷◌, ◌++◌, Option, Some, None, length, drop, take, arith, refl, sym, ap, ◌∙◌, append_assoc}
+use Rattle.std.specs.List.{flat_map, starts_with}
 use Rattle.std.specs.Char.{is_ascii_alphabetic}
-use Rattle.std.proofs.lemmas.List.{append-nil, drop_all, drop-drop, flat_map_more, length-append, take_rest}
+use Rattle.std.proofs.lemmas.List.{append-nil, drop_all, take_rest}
 use Rattle.hk_base.specs.Bytes.{Bytes}
 use Rattle.hk_html.specs.declared.scan.Scan.{Scan}
 use Rattle.hk_html.specs.Kind.{first, after_run, is_tag_byte}
 use Rattle.hk_html.specs.Found.{ReadsAll}
-use Rattle.hk_html.specs.Part.{Part, parts_of, parts_text}
-use Rattle.hk_html.specs.Piece.{Piece, comment, tag, unfinished, other, first_piece, tag_by, piece_text, piece_links, piece_with_root, pieces, pieces_after, raw_text}
+use Rattle.hk_html.specs.Part.{Part, parts_of}
+use Rattle.hk_html.specs.Piece.{comment, other, first_piece, tag_by, piece_text, piece_links, piece_with_root, pieces, pieces_after}
 use Rattle.hk_html.specs.Place.{place_of_word}
 use Rattle.hk_html.specs.Relative.{with_roots, links_of}
-use Rattle.hk_html.specs.Scan.{Reads, ReadsPiece, ahead, piece_ahead, written, link_values, links_with_root}
+use Rattle.hk_html.specs.Scan.{ReadsPiece, ahead, piece_ahead, written, link_values, links_with_root}
 use Rattle.hk_html.proofs.ReadsLemmas.{Reads-ahead}
 
 tag_by-some : (x : ℕ) (xs : Bytes) (parts : Option (List Part)) → length (piece_text (tag_by x xs parts)) ≡ suc (length (drop 1 (piece_text (tag_by x xs parts))))
@@ -22,15 +22,15 @@ tag_by-some x xs (Some parts) = refl
 pub first_piece-some : (x : ℕ) (xs : Bytes) → length (piece_text (first_piece x xs)) ≡ suc (length (drop 1 (piece_text (first_piece x xs))))
 first_piece-some x xs =
     elim (starts_with nat_eq (x ∷ xs) (codes "<!--")) as (λ b. let piece = cond b
-      (comment (x ∷ take (place_of_word (codes "-->") (drop 3 xs) + 6) xs))
-      (cond (x == 60 && is_ascii_alphabetic (first xs)) (tag_by x xs (parts_of (after_run is_tag_byte xs))) (other x)) in
-      length (piece_text piece) ≡ suc (length (drop 1 (piece_text piece)))) [
-      true ↦ refl
-    | false ↦ elim (x == 60 && is_ascii_alphabetic (first xs)) as (λ b. let piece = cond b (tag_by x xs (parts_of (after_run is_tag_byte xs))) (other x) in
-        length (piece_text piece) ≡ suc (length (drop 1 (piece_text piece)))) [
-        true ↦ tag_by-some x xs (parts_of (after_run is_tag_byte xs))
-      | false ↦ refl
-      ]
+    (comment (x ∷ take (place_of_word (codes "-->") (drop 3 xs) + 6) xs))
+    (cond (x == 60 && is_ascii_alphabetic (first xs)) (tag_by x xs (parts_of (after_run is_tag_byte xs))) (other x)) in
+    length (piece_text piece) ≡ suc (length (drop 1 (piece_text piece)))) [
+      | true ↦ refl
+      | false ↦ elim (x == 60 && is_ascii_alphabetic (first xs)) as (λ b. let piece = cond b (tag_by x xs (parts_of (after_run is_tag_byte xs))) (other x) in
+          length (piece_text piece) ≡ suc (length (drop 1 (piece_text piece)))) [
+            | true ↦ tag_by-some x xs (parts_of (after_run is_tag_byte xs))
+            | false ↦ refl
+          ]
     ]
 
 pieces_after-drop : (skip : ℕ) (text : Bytes) → pieces_after skip text ≡ pieces (drop skip text)

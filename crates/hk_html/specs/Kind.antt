@@ -1,5 +1,5 @@
 -- Kinds of bytes, runs of them, and names without regard to case.
-use Rattle.std.specs.Prelude.{ℕ, Bool, not, ◌==◌, ◌||◌, List, drop, slice_index}
+use Rattle.std.specs.Prelude.{ℕ, Bool, not, ◌==◌, ◌||◌, drop, slice_index}
 use Rattle.std.specs.List.{prefix_len}
 use Rattle.hk_base.specs.Bytes.{Bytes}
 

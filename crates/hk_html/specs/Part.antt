@@ -1,6 +1,6 @@
 -- The parts of a tag between its name and its end.
 use Rattle.std.specs.Prelude.{ℕ, zero, suc, Bool, ◌==◌, ◌||◌, ◌&&◌, not, List, [], ◌∷◌, ◌++◌, Option, Some, None, length, take, drop, if◌then◌else◌, nat_eq, codes}
-use Rattle.std.specs.List.{prefix_len, take_while, flat_map, starts_with}
+use Rattle.std.specs.List.{take_while, flat_map, starts_with}
 use Rattle.std.specs.Option.{option_map}
 use Rattle.std.specs.Str.{str_eq_ignore_ascii_case}
 use Rattle.hk_base.specs.Bytes.{Bytes}
@@ -37,7 +37,7 @@ named_part name white text =
 abbrev pub attribute : ℕ → Bytes → Part
 attribute x xs =
     named_part (x ∷ take_while is_attribute_byte xs) (take_while is_white (after_run is_attribute_byte xs))
-        (after_run is_white (after_run is_attribute_byte xs))
+    (after_run is_white (after_run is_attribute_byte xs))
 
 -- the part that begins with x
 abbrev pub first_part : ℕ → Bytes → Part

@@ -40,7 +40,7 @@ abbrev pub tag_by : ℕ → Bytes → Option (List Part) → Piece
 tag_by x xs None = unfinished (x ∷ xs)
 tag_by x xs (Some parts) =
     tag (x ∷ take_while is_tag_byte xs) parts
-        (raw_text (take_while is_tag_byte xs) (drop (length (parts_text parts) + 1) (after_run is_tag_byte xs)))
+    (raw_text (take_while is_tag_byte xs) (drop (length (parts_text parts) + 1) (after_run is_tag_byte xs)))
 
 -- the piece that begins with x: a comment goes through the first `-->` after its four bytes
 abbrev pub first_piece : ℕ → Bytes → Piece

@@ -2,7 +2,7 @@
 use Rattle.std.specs.Prelude.{ℕ, ◌+◌, length}
 use Rattle.hk_html.specs.declared.attribute.Attribute.{Attribute}
 use Rattle.hk_html.specs.declared.attribute.Attribute.TheVariants.{Bare, Valued}
-use Rattle.hk_html.specs.Part.{Part, mark, bare, valued, part_text}
+use Rattle.hk_html.specs.Part.{Part, mark, bare, valued}
 
 -- the lengths of an attribute's parts
 abbrev pub sizes_of : Part → Attribute

@@ -1,5 +1,5 @@
 -- What a scan has read.
-use Rattle.std.specs.Prelude.{◌≡◌, ◌<◌, ℕ, ◌+◌, Bool, true, false, Some, None, List, [], ◌++◌, map, length, take, drop, slice_range}
+use Rattle.std.specs.Prelude.{◌≡◌, ◌<◌, ℕ, ◌+◌, Bool, true, false, Some, None, List, ◌++◌, map, length, take, drop, slice_range}
 use Rattle.std.specs.List.{flat_map}
 use Rattle.hk_base.specs.Bytes.{Bytes}
 use Rattle.hk_html.specs.declared.scan.Link.{Link}

@@ -55,10 +55,20 @@ fn read_value(name: usize, between: usize, text: &[u8]) -> Attribute
         let rest = rest_of(text, 1);
         let value = quoted_len(rest, quote);
         let close = if value < rest.len() { 1 } else { 0 };
-        Attribute::Valued(Sizes { name, between: between + 1, value, close })
+        Attribute::Valued(Sizes {
+            name,
+            between: between + 1,
+            value,
+            close,
+        })
     } else {
         let value = value_len(text);
-        Attribute::Valued(Sizes { name, between, value, close: 0 })
+        Attribute::Valued(Sizes {
+            name,
+            between,
+            value,
+            close: 0,
+        })
     }
 }
 

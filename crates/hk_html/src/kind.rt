@@ -50,7 +50,9 @@ pub fn attribute_name_len(text: &[u8]) -> usize
     ensures value { result ≡ prefix_len spec.is_attribute_byte text.now }
     ensures bound { result ≤ length text.now }
 {
-    text.iter().take_while(|byte| is_attribute_byte(**byte)).count()
+    text.iter()
+        .take_while(|byte| is_attribute_byte(**byte))
+        .count()
 }
 
 /// How long the value without quotes is with which the text begins. Linear in that.

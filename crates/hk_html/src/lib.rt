@@ -2,8 +2,8 @@
 #![tactic(auto)]
 
 mod attribute;
-mod kind;
 mod found;
+mod kind;
 mod piece;
 mod place;
 mod relative;

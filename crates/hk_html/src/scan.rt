@@ -39,7 +39,12 @@ impl<'a> Scan<'a> {
         ensures from { result.from ≡ 0 }
         ensures at { result.at ≡ 0 }
     {
-        Scan { body, links: Vec::new(alloc), from: 0, at: 0 }
+        Scan {
+            body,
+            links: Vec::new(alloc),
+            from: 0,
+            at: 0,
+        }
     }
 
     fn skip(&mut self, count: usize)
@@ -59,7 +64,10 @@ impl<'a> Scan<'a> {
         let body = self.body;
         let start = self.at + before;
         let end = start + value;
-        self.links.push(Link { before: &body[self.from..start], value: &body[start..end] })?;
+        self.links.push(Link {
+            before: &body[self.from..start],
+            value: &body[start..end],
+        })?;
         self.from = end;
         self.at = end;
         Ok(())

@@ -10,17 +10,37 @@ const ROWS: [(&[u8], &[u8], &[u8]); 17] = [
     ),
     (b"x", b"<a href=\"/x\">", b"<a href=\"./x\">"),
     (b"a/b/c", b"<A HREF='/x'>", b"<A HREF='../../x'>"),
-    (b"x", b"<!--><a href=/q>--><a href=/x>", b"<!--><a href=/q>--><a href=./x>"),
+    (
+        b"x",
+        b"<!--><a href=/q>--><a href=/x>",
+        b"<!--><a href=/q>--><a href=./x>",
+    ),
     (b"x", b"<!-- <a href=/x>", b"<!-- <a href=/x>"),
-    (b"x", b"<a href=/x><b href=\"/y", b"<a href=./x><b href=\"/y"),
+    (
+        b"x",
+        b"<a href=/x><b href=\"/y",
+        b"<a href=./x><b href=\"/y",
+    ),
     (b"x", b"< a href=/x>", b"< a href=/x>"),
     (b"x", b"<br/href=\"/x\">", b"<br/href=\"./x\">"),
     (b"x", b"<a href = /x>", b"<a href = ./x>"),
     (b"x", b"<a href>/x", b"<a href>/x"),
     (b"x", b"<a href=\"/it's\">", b"<a href=\"./it's\">"),
-    (b"x", b"<style></style ><i src=/>", b"<style></style ><i src=./>"),
-    (b"x", b"<script></scripts><a href=/x></SCRIPT><a href=/x>", b"<script></scripts><a href=/x></SCRIPT><a href=./x>"),
-    (b"x", b"<script/><a href=/x></script/", b"<script/><a href=/x></script/"),
+    (
+        b"x",
+        b"<style></style ><i src=/>",
+        b"<style></style ><i src=./>",
+    ),
+    (
+        b"x",
+        b"<script></scripts><a href=/x></SCRIPT><a href=/x>",
+        b"<script></scripts><a href=/x></SCRIPT><a href=./x>",
+    ),
+    (
+        b"x",
+        b"<script/><a href=/x></script/",
+        b"<script/><a href=/x></script/",
+    ),
     (b"x", b"<a\0b href=/\xff\0>", b"<a\0b href=./\xff\0>"),
     (b"x", b"<a ==/x href=/x", b"<a ==/x href=/x"),
     (b"x", b"", b""),
@@ -37,7 +57,10 @@ fn relativizes(rt: HostRuntime) -> Result<(), Fail> {
 
 #[test]
 fn lists(rt: HostRuntime) -> Result<(), Fail> {
-    let found = links(rt.alloc(), b"<a href=\"/x\"><img src='//h/y'><p title=\"/z\"><i src><script>'<a href=\"/q\">'</script>")?;
+    let found = links(
+        rt.alloc(),
+        b"<a href=\"/x\"><img src='//h/y'><p title=\"/z\"><i src><script>'<a href=\"/q\">'</script>",
+    )?;
     assert_eq!(rt; found.len(), 2);
     assert_eq!(rt; found[0].as_slice(), b"/x".as_slice());
     assert_eq!(rt; found[1].as_slice(), b"//h/y".as_slice());
@@ -55,13 +78,24 @@ fn escapes(rt: HostRuntime) -> Result<(), Fail> {
 
 #[test]
 fn cuts(rt: HostRuntime) {
-    assert_eq!(rt; teaser(b"a<!--more-->b<!--more-->").unwrap_or(b"none"), b"a".as_slice());
+    assert_eq!(rt;
+        teaser(b"a<!--more-->b<!--more-->").unwrap_or(b"none"),
+        b"a".as_slice()
+    );
     assert_eq!(rt; teaser(b"<!--more-").unwrap_or(b"none"), b"none".as_slice());
 }
 
 #[test]
 fn answers_at_once(rt: HostRuntime) -> Result<(), Fail> {
-    for part in [b"<".as_slice(), b"<!--", b"<a ", b"<a =", b"<a b", b"</", b"<script></"] {
+    for part in [
+        b"<".as_slice(),
+        b"<!--",
+        b"<a ",
+        b"<a =",
+        b"<a b",
+        b"</",
+        b"<script></",
+    ] {
         let mut body = Vec::new(rt.alloc());
         for _ in 0..100_000 {
             body.extend_from_slice(part)?;

@@ -1,7 +1,7 @@
-use Rattle.std.proofs.Common.{◌≡◌, ◌<◌, ◌≤◌, ◌-◌, length, arith, ap, sym, ◌∙◌}
+use Rattle.std.proofs.Common.{◌≡◌, ◌<◌, length, arith, ap}
 use Rattle.std.proofs.lemmas.List.{length-drop}
 use Rattle.hk_html.specs.Scan.{ahead}
-use Rattle.hk_html.proofs.WholeLemmas.{PiecesRead-more, ReadsPiece-falls, ReadsAll-end}
+use Rattle.hk_html.proofs.WholeLemmas.{PiecesRead-more}
 use Rattle.hk_html.proofs.found.read_links.Goals as goal
 
 pub loop-scan-preserved : goal.loop-scan-preserved

@@ -14,7 +14,7 @@ value_is c =
     let root = c.in_ok-root.root.items in
     let whole = ReadsAll-text c.args.body.now c.in_ok-scan.scan root c.in_ok-scan.ensures in
     let written : c.from_vec.result ≡ links_with_root root c.in_ok-scan.scan.links.items ++ drop c.in_ok-scan.scan.from c.args.body.now =
-      rw (c.from_vec.ensures, c.in_ok-extend_from_slice.ensures.items, c.rest_of.ensures, c.in_ok-push_links.ensures, c.in_ok-text.ensures.items, c.deref-2.ensures.value, c.deref-3.ensures.value) in
+    rw (c.from_vec.ensures, c.in_ok-extend_from_slice.ensures.items, c.rest_of.ensures, c.in_ok-push_links.ensures, c.in_ok-text.ensures.items, c.deref-2.ensures.value, c.deref-3.ensures.value) in
     rw (← c.in_ok-root.ensures) (rw written whole)
 
 pub returns-clause-value : goal.returns-clause-value

@@ -1,5 +1,4 @@
-use Rattle.std.proofs.Common.{◌≤◌, arith, codes, ◌≡◌, ◌++◌, sym}
-use Rattle.hk_html.specs.Root.{root_at}
+use Rattle.std.proofs.Common.{◌≤◌, arith, sym}
 use Rattle.hk_html.proofs.RootLemmas.{root_at-more}
 use Rattle.hk_html.proofs.root.root_at.Goals as goal
 

@@ -1,8 +1,6 @@
-use Rattle.std.proofs.Common.{arith, refl, sym, ◌≤◌, ◌+◌, ◌≡◌, [], ◌∷◌, ◌++◌, length, ℕ}
-use Rattle.std.proofs.lemmas.List.{append-nil, take_at, map_push}
-use Rattle.hk_html.specs.declared.scan.Link.{Link}
+use Rattle.std.proofs.Common.{arith, refl, sym, ◌+◌, ◌≡◌}
+use Rattle.std.proofs.lemmas.List.{take_at}
 use Rattle.hk_html.proofs.ScanLemmas.{written_link, values_link}
-use Rattle.hk_html.proofs.SliceLemmas.{slice_range-from}
 use Rattle.hk_html.proofs.scan.Scan.link.Goals as goal
 
 pub returns : goal.returns

@@ -1,11 +1,7 @@
-use Rattle.std.proofs.Common.{◌≡◌, ◌<◌, ◌≤◌, ◌+◌, ◌-◌, drop, length, arith, sym, ap, ◌∙◌, true, false}
+use Rattle.std.proofs.Common.{◌<◌, drop, length, arith, sym}
 use Rattle.std.proofs.lemmas.List.{length-drop}
-use Rattle.hk_html.specs.Kind.{is_white, first}
-use Rattle.hk_html.specs.Part.{attribute, first_part, part_text}
-use Rattle.hk_html.specs.Read.{sizes_of}
-use Rattle.hk_html.specs.Scan.{Reads, ReadsPart, ahead, part_ahead}
-use Rattle.hk_html.specs.declared.attribute.Attribute.TheVariants.{Bare, Valued}
-use Rattle.hk_html.proofs.FrontLemmas.{BeginsWith, part_front_of, first_part-attribute}
+use Rattle.hk_html.specs.Scan.{ahead, part_ahead}
+use Rattle.hk_html.proofs.FrontLemmas.{part_front_of, first_part-attribute}
 use Rattle.hk_html.proofs.ReadsLemmas.{ReadsPart-bare_of}
 use Rattle.hk_html.proofs.scan.Scan.part.Goals as goal
 

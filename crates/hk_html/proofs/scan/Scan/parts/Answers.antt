@@ -1,8 +1,8 @@
-use Rattle.std.proofs.Common.{◌<◌, ◌-◌, length, arith, ◌∙◌, sym}
+use Rattle.std.proofs.Common.{◌<◌, length, arith, ◌∙◌, sym}
 use Rattle.std.proofs.lemmas.List.{length-drop}
 use Rattle.hk_html.specs.Scan.{ahead}
 use Rattle.hk_html.proofs.SliceLemmas.{get_or-ahead}
-use Rattle.hk_html.proofs.PartsLemmas.{PartsRead-none, PartsRead-more, ReadsTag-finished, ReadsTag-unfinished}
+use Rattle.hk_html.proofs.PartsLemmas.{PartsRead-none, PartsRead-more}
 use Rattle.hk_html.proofs.scan.Scan.parts.Goals as goal
 
 pub loop-self-init : goal.loop-self-init

@@ -1,9 +1,9 @@
-use Rattle.std.proofs.Common.{◌≡◌, ◌<◌, ◌≤◌, ◌+◌, ◌-◌, length, take, drop, arith, sym, ◌∙◌, ap, true, false, nat_eq, codes, min}
+use Rattle.std.proofs.Common.{◌≡◌, ◌<◌, ◌+◌, length, drop, arith, sym, true, nat_eq, codes, min}
 use Rattle.std.specs.List.{starts_with}
 use Rattle.std.proofs.lemmas.List.{length-drop}
 use Rattle.hk_html.specs.Place.{place_of_word}
 use Rattle.hk_html.specs.Scan.{ahead}
-use Rattle.hk_html.proofs.PiecesLemmas.{ReadsPiece-comment, ReadsPiece-other, piece_ahead-tag}
+use Rattle.hk_html.proofs.PiecesLemmas.{ReadsPiece-comment}
 use Rattle.hk_html.proofs.scan.Scan.piece.Goals as goal
 
 pub returns-then-starts_with : goal.returns-then-starts_with

@@ -1,4 +1,4 @@
-use Rattle.std.proofs.Common.{arith, refl, sym, ◌≤◌, [], length}
+use Rattle.std.proofs.Common.{arith, refl, sym}
 use Rattle.std.proofs.lemmas.List.{append-nil, take_all}
 use Rattle.hk_html.proofs.ScanLemmas.{written_skip}
 use Rattle.hk_html.proofs.scan.Scan.skip.Goals as goal

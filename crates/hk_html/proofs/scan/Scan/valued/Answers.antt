@@ -1,7 +1,7 @@
 use Rattle.std.proofs.Common.{◌≡◌, sym, true, take}
 use Rattle.hk_html.specs.Part.{is_link}
 use Rattle.hk_html.specs.Scan.{ahead}
-use Rattle.hk_html.proofs.ReadsLemmas.{ReadsPart-link_of, ReadsPart-plain_of}
+use Rattle.hk_html.proofs.ReadsLemmas.{ReadsPart-link_of}
 use Rattle.hk_html.proofs.scan.Scan.valued.Goals as goal
 
 pub returns-in_ok-link : goal.returns-in_ok-link
