@@ -1,0 +1,8 @@
+//! Metadata: headers of files, companion files, and dates.
+#![tactic(auto)]
+
+mod date;
+mod date_pattern;
+
+pub use date::Moment;
+pub use date_pattern::pattern_ok;
