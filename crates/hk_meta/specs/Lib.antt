@@ -1,2 +1,3 @@
 pub mod Date
 pub mod DatePattern
+pub mod Metadata

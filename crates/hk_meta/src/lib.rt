@@ -3,6 +3,8 @@
 
 mod date;
 mod date_pattern;
+mod metadata;
 
 pub use date::Moment;
 pub use date_pattern::pattern_ok;
+pub use metadata::Metadata;

@@ -1,0 +1,64 @@
+// Metadata: keys in order, each with one value.
+ghost use Rattle.std.specs.Prelude.{◌≡◌, [], IfOk, slice_get, option_map};
+ghost use Rattle.hk_meta.specs.Metadata as spec;
+
+use hk_base::NoMemory;
+use indexmap::IndexMap;
+use std::alloc::Global;
+use std::marker::Model;
+
+/// Keys in order, each with one value.
+#[derive(Drop)]
+pub struct Metadata {
+    pairs: IndexMap<Vec<u8>, Vec<u8>>,
+}
+
+impl Model for Metadata {
+    ghost use Rattle.std.specs.Prelude.{map};
+    ghost use Rattle.hk_meta.specs.Metadata.{Pairs};
+
+    ghost Value = { Pairs };
+
+    ghost view = { λ m. map (λ e. (e.0.items, e.1.items)) m.pairs.entries };
+}
+
+impl Metadata {
+    /// No keys at all. Constant; takes no memory.
+    pub fn new(alloc: Global) -> Metadata
+        ensures { result ≡ [] }
+    {
+        Metadata {
+            pairs: IndexMap::new(alloc),
+        }
+    }
+
+    /// The value of a key; `None` exactly where the key isn't there. Constant on average, and linear in the key;
+    /// takes no memory.
+    pub fn get(&self, key: &[u8]) -> Option<&[u8]>
+        ensures { option_map (λ v. v.now) result ≡ spec.value_of key.now self.now }
+    {
+        match self.pairs.get(key) {
+            Some(value) => Some(value.as_slice()),
+            None => None,
+        }
+    }
+
+    /// The key and the value at a place, counted from 0; `None` exactly where there are no more. Constant; takes no
+    /// memory.
+    pub fn entry(&self, place: usize) -> Option<(&[u8], &[u8])>
+        ensures { option_map (λ p. (p.0.now, p.1.now)) result ≡ slice_get self.now place }
+    {
+        match self.pairs.get_index(place) {
+            Some((key, value)) => Some((key.as_slice(), value.as_slice())),
+            None => None,
+        }
+    }
+
+    /// Gives a key a value: a key that is there keeps its place, and a new one goes last. Constant on average.
+    pub(crate) fn put(&mut self, key: Vec<u8>, value: Vec<u8>) -> Result<(), NoMemory>
+        ensures { IfOk result (λ _. self.new ≡ spec.put key.items value.items self.old) }
+    {
+        self.pairs.insert(key, value)?;
+        Ok(())
+    }
+}
