@@ -4,7 +4,7 @@ use Rattle.std.specs.Cmp.Lexicographic.{pointwise}
 use Rattle.std.specs.Map.{lookup}
 use Rattle.indexmap.specs.IndexMap.{insert_entry}
 use Rattle.hk_base.specs.Bytes.{Bytes}
-use Rattle.hk_meta.specs.Metadata.{Pair, Pairs, is_key, value_of, put}
+use Rattle.hk_meta.specs.Metadata.{Pair, Pairs, is_key, value_of, put, add_absent}
 
 module _ {K V : Type 0} (key_bytes : K → Bytes) (value_bytes : V → Bytes) where
   abbrev pub pair_of : K × V → Pair
@@ -36,3 +36,15 @@ put-absent key value (p ∷ ps) absent = by (is_key key p.0) (put-absent key val
     by : (b : Bool) → (is_some (value_of key ps) ≡ false → put key value ps ≡ ps ++ ((key, value) ∷ [])) → is_some (cond b (Some p.1) (value_of key ps)) ≡ false → cond b ((p.0, value) ∷ ps) (p ∷ put key value ps) ≡ p ∷ (ps ++ ((key, value) ∷ []))
     by true rest absent = cc
     by false rest absent = ap (λ t. p ∷ t) (rest absent)
+
+pub add_absent-put : (key value : Bytes) (ps : Pairs) → is_some (value_of key ps) ≡ false → put key value ps ≡ add_absent ps (key, value)
+add_absent-put key value ps absent = by (is_some (value_of key ps)) absent (put-absent key value ps absent)
+  where
+    by : (b : Bool) → b ≡ false → put key value ps ≡ ps ++ ((key, value) ∷ []) → put key value ps ≡ cond b ps (ps ++ ((key, value) ∷ []))
+    by true absent last = cc
+    by false absent last = last
+
+-- what a look-up through a reference lacks isn't there
+pub absent-from_map : {X Y : Type 0} (f : X → Y) (r : Option X) (o : Option Y) → option_map f r ≡ o → is_some r ≡ false → is_some o ≡ false
+absent-from_map f None o e absent = sym (ap is_some e)
+absent-from_map f (Some x) o e absent = cc

@@ -7,4 +7,4 @@ mod metadata;
 
 pub use date::Moment;
 pub use date_pattern::pattern_ok;
-pub use metadata::Metadata;
+pub use metadata::{Metadata, merge};

@@ -61,4 +61,30 @@ impl Metadata {
         self.pairs.insert(key, value)?;
         Ok(())
     }
+
+    /// Adds a pair whose key isn't there at the end, and else leaves all as it is.
+    fn add_absent(&mut self, key: Vec<u8>, value: Vec<u8>) -> Result<(), NoMemory>
+        ensures { IfOk result (λ _. self.new ≡ spec.add_absent self.old (key.items, value.items)) }
+    {
+        if self.get(&key).is_none() {
+            self.put(key, value)?;
+        }
+        Ok(())
+    }
+}
+
+/// The keys and values of a header, in their places, and after them those of its companion whose keys the header
+/// lacks, in their order. `NoMemory` only for want of memory. Linear.
+pub fn merge(
+    _alloc: Global,
+    header: Metadata,
+    companion: Metadata,
+) -> Result<Metadata, NoMemory>
+    ensures { IfOk result (λ merged. merged ≡ spec.merge header companion) }
+{
+    let mut merged = header;
+    for (key, value) in companion.pairs {
+        merged.add_absent(key, value)?;
+    }
+    Ok(merged)
 }
