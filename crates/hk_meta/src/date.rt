@@ -1,7 +1,9 @@
 // Moments, and texts that are dates.
-ghost use Rattle.std.specs.Prelude.{◌≡◌, ◌≤◌, ◌<◌, length, IfSome};
+ghost use Rattle.std.specs.Prelude.{◌≡◌, ◌≤◌, ◌<◌, length, option_map, IfSome, pos};
 ghost use Rattle.hk_meta.specs.Date as spec;
+ghost use Rattle.hk_meta.specs.Date.{IsMoment};
 
+use crate::Metadata;
 use jiff::civil::Date;
 
 /// A day of the years 0000 to 9999 and a time of it, ordered in time.
@@ -15,9 +17,58 @@ pub struct Moment {
     pub second: u8,
 }
 
+/// The date of an item: the first that reads as a date of the value of `published`, the value of `date`, and the first
+/// ten bytes of the path's last component where an eleventh byte `-` follows. `None` exactly where none of them does.
+/// A date is `YYYY-MM-DD`, or that with a space or `T`, `HH:MM:SS` and at most one `Z`, in the Gregorian calendar; without a
+/// time it is midnight. Linear in the path; takes no memory.
+pub fn date_of(meta: &Metadata, path: &[u8]) -> Option<Moment>
+    ensures value { result ≡ spec.date_of meta.now path.now }
+    ensures valid { IfSome result IsMoment }
+{
+    if let Some(moment) = read_value(meta.get(b"published")) {
+        return Some(moment);
+    }
+    if let Some(moment) = read_value(meta.get(b"date")) {
+        return Some(moment);
+    }
+    read_name(last_component(path))
+}
+
+fn read_value(text: Option<&[u8]>) -> Option<Moment>
+    ensures value { result ≡ spec.read_value (option_map (λ t. t.now) text.entry) }
+    ensures valid { IfSome result IsMoment }
+{
+    match text {
+        Some(text) => read_date(text),
+        None => None,
+    }
+}
+
+fn last_component(path: &[u8]) -> &[u8]
+    ensures { result.now ≡ spec.last_component path.now }
+{
+    let mut start = path.len();
+    while start > 0 && path[start - 1] != b'/' {
+        start -= 1;
+    }
+    &path[start..]
+}
+
+fn read_name(name: &[u8]) -> Option<Moment>
+    ensures value { result ≡ spec.read_name name.now }
+    ensures valid { IfSome result IsMoment }
+{
+    if name.len() > 10 && name[10] == b'-' {
+        read_day(&name[..10])
+    } else {
+        None
+    }
+}
+
 /// A date text: `YYYY-MM-DD`, or that with a space or `T`, `HH:MM:SS` and at most one `Z`.
 pub(crate) fn read_date(text: &[u8]) -> Option<Moment>
-    ensures { result ≡ spec.read_date text.now }
+    ensures value { result ≡ spec.read_date text.now }
+    ensures valid { IfSome result IsMoment }
 {
     if text.len() == 10 {
         read_day(text)
@@ -37,20 +88,36 @@ fn without_zone(text: &[u8]) -> &[u8]
 }
 
 fn read_day_and_time(text: &[u8]) -> Option<Moment>
-    ensures { result ≡ spec.read_day_and_time text.now }
+    ensures value { result ≡ spec.read_day_and_time text.now }
+    ensures valid { IfSome result IsMoment }
 {
-    if text.len() == 19 && (text[10] == b' ' || text[10] == b'T') {
-        match read_day(&text[..10]) {
-            Some(start) => read_time(start, &text[11..]),
-            None => None,
-        }
+    if text.len() == 19 && begins_time(text[10]) {
+        with_time(read_day(&text[..10]), &text[11..])
     } else {
         None
     }
 }
 
+fn begins_time(byte: u8) -> bool
+    ensures { result ≡ spec.begins_time byte }
+{
+    byte == b' ' || byte == b'T'
+}
+
+fn with_time(start: Option<Moment>, text: &[u8]) -> Option<Moment>
+    ensures value { result ≡ spec.with_time start text.now }
+    ensures valid { IfSome start IsMoment → IfSome result IsMoment }
+{
+    match start {
+        Some(start) => read_time(start, text),
+        None => None,
+    }
+}
+
+#[tactic(auto, unfolding(crate::specs::Date::read_day))]
 fn read_day(text: &[u8]) -> Option<Moment>
-    ensures { result ≡ spec.read_day text.now }
+    ensures value { result ≡ spec.read_day text.now }
+    ensures valid { IfSome result IsMoment }
 {
     if text.len() == 10 && text[4] == b'-' && text[7] == b'-' {
         midnight(
@@ -67,7 +134,8 @@ fn midnight(year: Option<u16>, month: Option<u16>, day: Option<u16>) -> Option<M
     requires years { IfSome year (λ y. y < 10000) }
     requires months { IfSome month (λ m. m < 100) }
     requires days { IfSome day (λ d. d < 100) }
-    ensures { result ≡ spec.midnight_by year month day }
+    ensures value { result ≡ spec.midnight_by year month day }
+    ensures valid { IfSome result IsMoment }
 {
     match (year, month, day) {
         (Some(year), Some(month), Some(day)) => {
@@ -92,13 +160,15 @@ fn is_day(year: u16, month: u16, day: u16) -> bool
     requires years { year < 10000 }
     requires months { month < 100 }
     requires days { day < 100 }
-    ensures { result ≡ spec.is_day year month day }
+    ensures { result ≡ spec.is_day (pos year) month day }
 {
     Date::new(year as i16, month as i8, day as i8).is_ok()
 }
 
+#[tactic(auto, unfolding(crate::specs::Date::read_time))]
 fn read_time(start: Moment, text: &[u8]) -> Option<Moment>
-    ensures { result ≡ spec.read_time start text.now }
+    ensures value { result ≡ spec.read_time start text.now }
+    ensures valid { IsMoment start → IfSome result IsMoment }
 {
     if text.len() == 8 && text[2] == b':' && text[5] == b':' {
         at_time(
@@ -118,7 +188,8 @@ fn at_time(
     minute: Option<u16>,
     second: Option<u16>,
 ) -> Option<Moment>
-    ensures { result ≡ spec.time_by start hour minute second }
+    ensures value { result ≡ spec.time_by start hour minute second }
+    ensures valid { IsMoment start → IfSome result IsMoment }
 {
     match (hour, minute, second) {
         (Some(hour), Some(minute), Some(second)) => {

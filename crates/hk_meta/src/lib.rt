@@ -5,6 +5,6 @@ mod date;
 mod date_pattern;
 mod metadata;
 
-pub use date::Moment;
+pub use date::{Moment, date_of};
 pub use date_pattern::pattern_ok;
 pub use metadata::{Metadata, merge};
