@@ -1,3 +1,5 @@
 pub mod Date
 pub mod DatePattern
 pub mod Metadata
+pub mod Scalar
+pub mod ScalarView

@@ -3,7 +3,9 @@
 
 mod date;
 mod date_pattern;
+mod joined;
 mod metadata;
+mod scalar;
 
 pub use date::{Moment, date_of};
 pub use date_pattern::pattern_ok;
