@@ -1,6 +1,5 @@
 // Scalars: what a header line says after its dash or its colon.
-ghost use Rattle.std.specs.Prelude.{◌≡◌, ◌≤◌, [], None, true, false, not, length, take, IfOk, option_map};
-ghost use Rattle.std.specs.List.{prefix_len};
+ghost use Rattle.std.specs.Prelude.{◌≡◌, ◌≤◌, [], None, if◌then◌else◌, true, false, length, take, IfOk, option_map};
 ghost use Rattle.hk_meta.specs.Scalar as spec;
 ghost use Rattle.hk_meta.specs.ScalarView.{read_view, scalar_view};
 
@@ -172,4 +171,156 @@ fn before_comment(text: &[u8]) -> &[u8]
         free = is_blank(*byte);
     }
     text
+}
+
+/// The text from the first byte that ends a plain member of a bracketed list.
+fn member_len(text: &[u8]) -> usize
+    ensures value { result ≡ spec.member_len text.now }
+    ensures bound { result ≤ length text.now }
+{
+    let mut len = 0;
+    while len < text.len() && !ends_member(text[len]) {
+        len += 1;
+    }
+    len
+}
+
+fn ends_member(byte: u8) -> bool
+    ensures { result ≡ spec.ends_member byte }
+{
+    matches!(byte, b',' | b'[' | b']' | b'{' | b'}')
+}
+
+/// Joins a plain member, and gives what follows it.
+fn plain_member<'a>(joined: &mut Joined, text: &'a [u8]) -> Result<&'a [u8], NoMemory>
+    ensures { IfOk result (λ rest. Some (joined.new, rest.now) ≡ spec.plain_member joined.old text.now) }
+{
+    let len = member_len(text);
+    let member = trim_end(&text[..len]);
+    if !member.is_empty() {
+        joined.push(member)?;
+    }
+    Ok(&text[len..])
+}
+
+/// Joins a member of a bracketed list, and gives what follows it.
+#[tactic(auto, unfolding(crate::specs::Scalar::read_member))]
+fn read_member<'a>(
+    alloc: Global,
+    joined: &mut Joined,
+    text: &'a [u8],
+) -> Result<Option<&'a [u8]>, NoMemory>
+    ensures { IfOk result (λ r. option_map (λ rest. (joined.new, rest.now)) r ≡ spec.read_member joined.old text.now) }
+{
+    if text.is_empty() || !is_quote(text[0]) {
+        let rest = plain_member(joined, text)?;
+        return Ok(Some(rest));
+    }
+    match read_quoted(alloc, text[0], &text[1..])? {
+        Some(read) => {
+            joined.push(&read.value)?;
+            Ok(Some(skip_blanks(read.rest)))
+        }
+        None => Ok(None),
+    }
+}
+
+/// Reads on after `[`.
+#[tactic(auto, using(crate::proofs::Members::members_step, crate::proofs::Members::members_end))]
+fn read_bracketed(alloc: Global, text: &[u8]) -> Result<Option<Read<'_>>, NoMemory>
+    ensures { IfOk result (λ r. option_map read_view r ≡ spec.bracketed text.now) }
+{
+    let mut joined = Joined::new(alloc);
+    let mut rest = text;
+    for _member in 0..text.len() {
+        match read_member(alloc, &mut joined, skip_blanks(rest))? {
+            Some(after) => {
+                if after.is_empty() {
+                    return Ok(None);
+                }
+                rest = &after[1..];
+                match after[0] {
+                    b',' => {}
+                    b']' => {
+                        let value = joined.into_value();
+                        return Ok(Some(Read { value, rest }));
+                    }
+                    _ => return Ok(None),
+                }
+            }
+            None => return Ok(None),
+        }
+    }
+    Ok(None)
+}
+
+/// The scalar of a line after its dash or its colon. In a list's line no bracketed one may stand.
+pub(crate) fn read_scalar(
+    alloc: Global,
+    in_list: bool,
+    text: &[u8],
+) -> Result<Option<Scalar>, NoMemory>
+    ensures { IfOk result (λ r. option_map scalar_view r ≡ spec.scalar in_list text.now) }
+{
+    scalar_at(alloc, in_list, skip_blanks(text))
+}
+
+#[tactic(auto, unfolding(crate::specs::Scalar::scalar_at))]
+fn scalar_at(alloc: Global, in_list: bool, text: &[u8]) -> Result<Option<Scalar>, NoMemory>
+    ensures { IfOk result (λ r. option_map scalar_view r ≡ spec.scalar_at in_list text.now) }
+{
+    if text.is_empty() {
+        return Ok(Some(Scalar {
+            value: Vec::new(alloc),
+            plain: true,
+        }));
+    }
+    let first = text[0];
+    if is_quote(first) {
+        let read = read_quoted(alloc, first, &text[1..])?;
+        return Ok(closed(read));
+    }
+    if first == b'[' {
+        return bracketed(alloc, in_list, &text[1..]);
+    }
+    if is_reserved(first) {
+        return Ok(None);
+    }
+    let value = Vec::from_slice(alloc, plain(text))?;
+    Ok(Some(Scalar { value, plain: true }))
+}
+
+fn bracketed(alloc: Global, in_list: bool, text: &[u8]) -> Result<Option<Scalar>, NoMemory>
+    ensures { IfOk result (λ r. option_map scalar_view r ≡ (if in_list then None else spec.closed (spec.bracketed text.now))) }
+{
+    if in_list {
+        return Ok(None);
+    }
+    let read = read_bracketed(alloc, text)?;
+    Ok(closed(read))
+}
+
+fn is_reserved(byte: u8) -> bool
+    ensures { result ≡ spec.is_reserved byte }
+{
+    matches!(byte, b'|' | b'>' | b'{' | b'&' | b'*' | b'!')
+}
+
+/// A quoted or bracketed scalar, where nothing but blanks and a comment follows it.
+fn closed(read: Option<Read<'_>>) -> Option<Scalar>
+    ensures { option_map scalar_view result ≡ spec.closed (option_map read_view read.entry) }
+{
+    match read {
+        Some(read) => {
+            if ends_scalar(read.rest) {
+                Some(Scalar {
+                    value: read.value,
+                    plain: false,
+                })
+            } else {
+                None
+            }
+        }
+        None => None,
+    }
 }
