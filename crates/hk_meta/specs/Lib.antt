@@ -1,5 +1,7 @@
 pub mod Date
 pub mod DatePattern
+pub mod Line
+pub mod LineView
 pub mod Metadata
 pub mod Scalar
 pub mod ScalarView

@@ -4,6 +4,7 @@
 mod date;
 mod date_pattern;
 mod joined;
+mod line;
 mod metadata;
 mod scalar;
 
