@@ -3,5 +3,6 @@ pub mod DatePattern
 pub mod Line
 pub mod LineView
 pub mod Metadata
+pub mod Reader
 pub mod Scalar
 pub mod ScalarView

@@ -6,6 +6,7 @@ mod date_pattern;
 mod joined;
 mod line;
 mod metadata;
+mod reader;
 mod scalar;
 
 pub use date::{Moment, date_of};
