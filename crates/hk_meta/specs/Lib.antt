@@ -2,6 +2,7 @@ pub mod Date
 pub mod DatePattern
 pub mod Line
 pub mod LineView
+pub mod Lines
 pub mod Metadata
 pub mod Reader
 pub mod Scalar

@@ -5,6 +5,7 @@ mod date;
 mod date_pattern;
 mod joined;
 mod line;
+mod lines;
 mod metadata;
 mod reader;
 mod scalar;
