@@ -1,5 +1,6 @@
 pub mod Date
 pub mod DatePattern
+pub mod Header
 pub mod Line
 pub mod LineView
 pub mod Lines

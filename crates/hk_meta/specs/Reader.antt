@@ -1,5 +1,5 @@
 -- What the lines so far say: the keys and values, and the list that is open.
-use Rattle.std.specs.Prelude.{List, [], Option, Some, None}
+use Rattle.std.specs.Prelude.{ℕ, List, [], Option, Some, None, Result, Ok, Err}
 use Rattle.std.specs.Option.{unwrap_or}
 use Rattle.hk_base.specs.Bytes.{Bytes}
 use Rattle.hk_meta.specs.Line.{Line, ignored, member, key_line, refused}
@@ -35,3 +35,8 @@ step s ignored = Some s
 step s (member value) = with_member value s.0 s.1
 step s (key_line key value) = Some (with_key key value (close s))
 step s refused = None
+
+-- after the last line
+abbrev pub finished : Option ℕ → State → Result Pairs ℕ
+finished None s = Ok (close s)
+finished (Some number) s = Err number
