@@ -2,3 +2,4 @@ pub mod Entries
 pub mod Members
 pub mod FirstLine
 pub mod Reading
+pub mod Printing

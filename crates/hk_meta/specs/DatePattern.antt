@@ -13,7 +13,7 @@ is_form letter = list_any (λ c. c == letter) form_letters
 -- whether each percent sign begins a form; `begun` says that one stands just before
 abbrev pub forms_from : Bool → Bytes → Bool
 forms_from true [] = false
-forms_from true (c ∷ cs) = if is_form c then forms_from false cs else false
+forms_from true (c ∷ cs) = is_form c && forms_from false cs
 forms_from false [] = true
 forms_from false (c ∷ cs) = forms_from (c == 37) cs
 

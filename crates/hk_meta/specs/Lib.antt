@@ -1,4 +1,6 @@
 pub mod Date
+pub mod DateFormat
+pub mod DateParts
 pub mod DatePattern
 pub mod Header
 pub mod Line

@@ -3,6 +3,7 @@
 
 mod answer;
 mod date;
+mod date_format;
 mod date_pattern;
 mod header;
 mod joined;
@@ -14,6 +15,7 @@ mod scalar;
 
 pub use answer::{HeaderFault, Split};
 pub use date::{Moment, date_of};
+pub use date_format::format_date;
 pub use date_pattern::pattern_ok;
 pub use header::{read_companion, split};
 pub use metadata::{Metadata, merge};
