@@ -1,5 +1,5 @@
 -- The line at the start of a text is the first of all its lines.
-use Rattle.std.proofs.Common.{◌≡◌, ℕ, ◌+◌, ◌-◌, ◌<◌, ◌≤◌, ◌==◌, zero, suc, Bool, true, false, cond, not, List, [], ◌∷◌, ◌++◌, length, take, drop, Option, Some, None, refl, ap, sym, ◌∙◌, arith, min, nat_lt, position, zero-add, length-take, inl, inr, ◌⊎◌, ⊎_elim}
+use Rattle.std.proofs.Common.{◌≡◌, ℕ, ◌+◌, ◌-◌, ◌<◌, ◌≤◌, ◌==◌, suc, Bool, true, false, cond, not, [], ◌∷◌, length, take, drop, Option, Some, None, refl, ap, sym, ◌∙◌, arith, nat_lt, inl, inr, ◌⊎◌, ⊎_elim}
 use Rattle.std.specs.List.{prefix_len, slice_get}
 use Rattle.std.proofs.lemmas.Bool.Decides.{nat_tests}
 use Rattle.std.proofs.lemmas.Grind.{common_steps}
@@ -118,10 +118,10 @@ unfolding line_text
 line_text-first text =
     ⊎_elim
     (λ fed.
-      let within : line_end text 0 ≤ suc (feed_at text) = omega (arith, fed.end, without_return-le (take (feed_at text) text), length-take-le (feed_at text) text (omega (arith, fed.below))) in
-      sym (take-take (line_end text 0) (suc (feed_at text)) text within)
-      ∙ ap (λ n. take n (take (suc (feed_at text)) text)) (sym (end-fed text fed))
-      ∙ ap (λ line. take (line_end line 0) line) (sym (first_line-is text)))
+    let within : line_end text 0 ≤ suc (feed_at text) = omega (arith, fed.end, without_return-le (take (feed_at text) text), length-take-le (feed_at text) text (omega (arith, fed.below))) in
+    sym (take-take (line_end text 0) (suc (feed_at text)) text within)
+    ∙ ap (λ n. take n (take (suc (feed_at text)) text)) (sym (end-fed text fed))
+    ∙ ap (λ line. take (line_end line 0) line) (sym (first_line-is text)))
     (λ unfed.
-      ap (λ line. take (line_end line 0) line) (sym (take_all (suc (feed_at text)) text (omega (arith, unfed.all))) ∙ sym (first_line-is text)))
+    ap (λ line. take (line_end line 0) line) (sym (take_all (suc (feed_at text)) text (omega (arith, unfed.all))) ∙ sym (first_line-is text)))
     (fed_or_not text)

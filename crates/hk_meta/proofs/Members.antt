@@ -1,5 +1,5 @@
 -- Members of a bracketed list, one at a time.
-use Rattle.std.proofs.Common.{◌≡◌, ℕ, ◌+◌, ◌-◌, ◌<◌, ◌≤◌, ◌==◌, true, false, suc, List, [], ◌∷◌, length, take, drop, get_or, None, Some, Option, refl, ap, sym, ◌∙◌, arith}
+use Rattle.std.proofs.Common.{◌≡◌, ℕ, ◌+◌, ◌-◌, ◌<◌, ◌≤◌, ◌==◌, true, false, suc, [], ◌∷◌, length, take, drop, get_or, None, Some, Option, refl, ap, sym, ◌∙◌, arith}
 use Rattle.std.proofs.lemmas.Grind.{common_steps}
 use Rattle.std.specs.Option.{unwrap_or}
 use Rattle.hk_base.specs.Bytes.{Bytes}

@@ -1,16 +1,15 @@
 -- What the printer of dates shows by a date pattern.
-use Rattle.std.proofs.Common.{◌≡◌, ℕ, ◌+◌, ◌-◌, ◌<◌, ◌≤◌, ◌==◌, ◌&&◌, ◌||◌, zero, suc, ℤ, pos, negsuc, codes, Bool, true, false, cond, not, List, [], ◌∷◌, ◌++◌, length, take, drop, get_or, Option, Some, None, Result, Ok, Err, refl, ap, sym, ◌∙◌, subst, arith, unsigned_abs, append_assoc, append-nil}
-use Rattle.std.specs.Prelude.{nat_le, nat_lt, int_le, ◌≤ℤ◌}
+use Rattle.std.proofs.Common.{◌≡◌, ℕ, ◌≤◌, ◌==◌, ◌&&◌, ◌||◌, zero, suc, ℤ, pos, negsuc, codes, Bool, true, false, cond, [], ◌∷◌, ◌++◌, length, take, Ok, Err, refl, ap, sym, ◌∙◌, subst, arith, unsigned_abs, append_assoc, append-nil}
+use Rattle.std.specs.Prelude.{nat_le, nat_lt, ◌≤ℤ◌}
 use Rattle.std.specs.List.{list_any, list_all}
 use Rattle.std.proofs.lemmas.Bool.Decides.{nat_tests}
-use Rattle.std.proofs.lemmas.Grind.{common_steps}
 use Rattle.hk_base.specs.Bytes.{Bytes}
-use Rattle.jiff_strtime.specs.Directive.{plain, read_flag, colon_rest, read_extension}
-use Rattle.jiff_strtime.specs.Show.{Context, Shown, percent_text, show_letter, directive_text, text_of, int_text, step_text, show_steps, show_format, after_percent, shown_then, then_show, month_name as shown_month}
+use Rattle.jiff_strtime.specs.Directive.{plain, read_flag, colon_rest}
+use Rattle.jiff_strtime.specs.Show.{Context, Shown, percent_text, directive_text, text_of, int_text, step_text, show_steps, show_format, shown_then, then_show, month_name as shown_month}
 use Rattle.jiff_strtime.specs.declared.directive.Config.{Config}
 use Rattle.jiff_strtime.specs.declared.directive.Locale.TheVariants.{Default}
 use Rattle.hk_meta.specs.Date.{IsMoment, is_day}
-use Rattle.hk_meta.specs.DateFormat.{places, form_text, format_from, format_date, month_name, weekday_name}
+use Rattle.hk_meta.specs.DateFormat.{places, form_text, format_from, format_date, month_name}
 use Rattle.hk_meta.specs.DateParts.{parts}
 use Rattle.hk_meta.specs.DatePattern.{is_form, forms_from, pattern_ok}
 use Rattle.hk_meta.specs.declared.date.Moment.{Moment}

@@ -1,12 +1,12 @@
 -- What is left of a header after some of its lines.
-use Rattle.std.proofs.Common.{◌≡◌, ℕ, ◌+◌, ◌-◌, ◌<◌, ◌≤◌, ◌==◌, Bool, true, false, cond, List, [], ◌∷◌, ◌++◌, map, length, Option, Some, None, Result, Ok, Err, fold, refl, ap, sym, ◌∙◌, arith}
+use Rattle.std.proofs.Common.{◌≡◌, ℕ, ◌+◌, true, false, cond, List, [], ◌∷◌, map, length, Option, Some, None, Result, Err, fold, refl, ap, ◌∙◌, arith}
 use Rattle.std.specs.Option.{is_some}
 use Rattle.hk_base.specs.Bytes.{Bytes}
 use Rattle.hk_meta.specs.Line.{Line, ignored, member, key_line, refused, line_of}
 use Rattle.hk_meta.specs.Lines.{line_text, all_lines}
 use Rattle.hk_meta.specs.Metadata.{Pairs, put}
-use Rattle.hk_meta.specs.Reader.{State, OpenList, step, finished, close}
-use Rattle.hk_meta.specs.Header.{assigned, members_of, join_after, assign, first_refused, accepted, read_lines, before_fence, with_line, split_by, after_fence, is_fence, companion_line}
+use Rattle.hk_meta.specs.Reader.{State, OpenList, step, finished}
+use Rattle.hk_meta.specs.Header.{assigned, members_of, join_after, assign, first_refused, accepted, before_fence, with_line, split_by, after_fence, is_fence, companion_line}
 use Rattle.hk_meta.specs.declared.answer.Split.{Split}
 use Rattle.hk_meta.specs.declared.answer.HeaderFault.{HeaderFault}
 use Rattle.hk_meta.specs.declared.answer.HeaderFault.TheVariants.{Unclosed}

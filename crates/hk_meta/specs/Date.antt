@@ -1,5 +1,5 @@
 -- When a text is a date.
-use Rattle.std.specs.Prelude.{ℕ, ℤ, pos, ◌+◌, ◌-◌, ◌*◌, ◌≡◌, Bool, true, false, ◌&&◌, ◌||◌, ◌==◌, nat_le, nat_lt, if◌then◌else◌, List, [], ◌∷◌, length, Option, Some, None, slice_range, slice_index, take, drop, not, codes}
+use Rattle.std.specs.Prelude.{ℕ, ℤ, pos, ◌+◌, ◌-◌, ◌*◌, ◌≡◌, Bool, true, ◌&&◌, ◌||◌, ◌==◌, nat_le, nat_lt, if◌then◌else◌, [], ◌∷◌, length, Option, Some, None, slice_range, slice_index, take, drop, not, codes}
 use Rattle.jiff.specs.Words.{days_in_month, IsBetween}
 use Rattle.std.specs.List.{suffix_len}
 use Rattle.hk_base.specs.Bytes.{Bytes}

@@ -1,5 +1,5 @@
 -- What a date pattern is.
-use Rattle.std.specs.Prelude.{ℕ, Bool, true, false, ◌&&◌, ◌||◌, ◌==◌, nat_le, nat_lt, if◌then◌else◌, List, [], ◌∷◌, length, codes}
+use Rattle.std.specs.Prelude.{ℕ, Bool, true, false, ◌&&◌, ◌==◌, nat_le, nat_lt, [], ◌∷◌, length, codes}
 use Rattle.std.specs.List.{list_any, list_all}
 use Rattle.hk_base.specs.Bytes.{Bytes}
 

@@ -1,5 +1,5 @@
 -- What a header line is.
-use Rattle.std.specs.Prelude.{ℕ, Bool, true, false, ◌&&◌, ◌||◌, ◌==◌, nat_le, if◌then◌else◌, List, [], ◌∷◌, take, drop, Option, Some, None}
+use Rattle.std.specs.Prelude.{ℕ, Bool, true, false, ◌&&◌, ◌||◌, ◌==◌, nat_le, if◌then◌else◌, [], ◌∷◌, take, drop, Option, Some, None}
 use Rattle.std.specs.List.{prefix_len}
 use Rattle.hk_base.specs.Bytes.{Bytes}
 use Rattle.hk_meta.specs.Scalar.{Scalar, is_blank, skip_blanks, is_ignored, scalar}

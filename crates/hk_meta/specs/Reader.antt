@@ -1,5 +1,5 @@
 -- What the lines so far say: the keys and values, and the list that is open.
-use Rattle.std.specs.Prelude.{ℕ, List, [], Option, Some, None, Result, Ok, Err}
+use Rattle.std.specs.Prelude.{ℕ, [], Option, Some, None, Result, Ok, Err}
 use Rattle.std.specs.Option.{unwrap_or}
 use Rattle.hk_base.specs.Bytes.{Bytes}
 use Rattle.hk_meta.specs.Line.{Line, ignored, member, key_line, refused}

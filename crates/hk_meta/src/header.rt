@@ -59,7 +59,11 @@ pub fn read_companion(alloc: Global, file: &[u8]) -> Result<Metadata, Refusal<He
 fn is_fence(text: &[u8]) -> bool
     ensures { result ≡ spec.is_fence text.now }
 {
-    text.len() >= 3 && text[0] == b'-' && text[1] == b'-' && text[2] == b'-' && is_all_blank(&text[3..])
+    text.len() >= 3
+        && text[0] == b'-'
+        && text[1] == b'-'
+        && text[2] == b'-'
+        && is_all_blank(&text[3..])
 }
 
 fn is_all_blank(text: &[u8]) -> bool

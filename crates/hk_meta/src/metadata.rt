@@ -75,11 +75,7 @@ impl Metadata {
 
 /// The keys and values of a header, in their places, and after them those of its companion whose keys the header
 /// lacks, in their order. `NoMemory` only for want of memory. Linear.
-pub fn merge(
-    _alloc: Global,
-    header: Metadata,
-    companion: Metadata,
-) -> Result<Metadata, NoMemory>
+pub fn merge(_alloc: Global, header: Metadata, companion: Metadata) -> Result<Metadata, NoMemory>
     ensures { IfOk result (λ merged. merged ≡ spec.merge header companion) }
 {
     let mut merged = header;

@@ -87,12 +87,7 @@ impl Reader {
         Ok(())
     }
 
-    fn add_key(
-        &mut self,
-        alloc: Global,
-        key: &[u8],
-        value: Option<Vec<u8>>,
-    ) -> Result<(), NoMemory>
+    fn add_key(&mut self, alloc: Global, key: &[u8], value: Option<Vec<u8>>) -> Result<(), NoMemory>
         ensures { IfOk result (λ _. self.new ≡ spec.with_key key.now (option_map (λ v. v.items) value) (spec.close self.old)) }
     {
         self.close_list()?;

@@ -7,5 +7,5 @@ returns-in-Ok c =
     let shown = c.in-Ok.ensures.ok in
     c.from_vec.ensures
     ∙ ap shown_text
-        (sym shown.shown_is
-        ∙ shows-pattern shown.context c.args.date.now c.args.pattern.now c.requires.date (shown.is_context.parts ∙ c.make_parts.ensures) c.requires.pattern)
+    (sym shown.shown_is
+    ∙ shows-pattern shown.context c.args.date.now c.args.pattern.now c.requires.date (shown.is_context.parts ∙ c.make_parts.ensures) c.requires.pattern)

@@ -1,6 +1,5 @@
-use Rattle.std.proofs.Common.{◌≡◌, ◌-◌, ◌∷◌, ap, sym, ◌∙◌, arith, length, take, drop, subst}
+use Rattle.std.proofs.Common.{◌≡◌, ◌-◌, ◌∷◌, ap, sym, ◌∙◌, arith, length, take, drop}
 use Rattle.std.proofs.lemmas.List.{take_rest, length-drop}
-use Rattle.hk_base.specs.Line.{line_next}
 use Rattle.hk_meta.specs.Lines.{all_lines, first_line}
 use Rattle.hk_meta.proofs.FirstLine.{all_lines-first, line_text-first, length-first_line, next-le, next-some}
 use Rattle.hk_meta.proofs.lines.cut_line.Goals as goal

@@ -1,4 +1,4 @@
-use Rattle.std.proofs.Common.{◌≡◌, ◌-◌, None, length}
+use Rattle.std.proofs.Common.{◌≡◌, ◌-◌, length}
 use Rattle.hk_meta.specs.Scalar as spec
 use Rattle.hk_meta.proofs.scalar.read_bracketed.Given as goal
 

@@ -1,4 +1,4 @@
-use Rattle.std.proofs.Common.{◌≡◌, ap, sym, ◌∙◌, option_map, Some}
+use Rattle.std.proofs.Common.{ap, ◌∙◌, option_map, Some}
 use Rattle.hk_meta.proofs.Entries.{value_of-entries}
 use Rattle.hk_meta.specs.Metadata.{value_of}
 use Rattle.hk_meta.proofs.metadata.Metadata.get.Goals as goal

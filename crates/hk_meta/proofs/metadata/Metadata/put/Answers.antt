@@ -1,4 +1,4 @@
-use Rattle.std.proofs.Common.{◌≡◌, ap, sym, ◌∙◌, map}
+use Rattle.std.proofs.Common.{ap, ◌∙◌, map}
 use Rattle.hk_meta.proofs.Entries.{put-entries, pair_of}
 use Rattle.hk_meta.specs.Metadata.{put}
 use Rattle.hk_meta.proofs.metadata.Metadata.put.Goals as goal
