@@ -1,0 +1,5 @@
+pub mod Context
+pub mod Facts
+pub mod Kept
+pub mod Layout
+pub mod Marks
