@@ -1,0 +1,17 @@
+use Rattle.std.proofs.Common.{reverse}
+use Rattle.hk_fix.specs.Fix.{status}
+use Rattle.hk_fix.proofs.Orders.{pages-are, ends-are}
+use Rattle.hk_fix.proofs.Waits.{ended-reverse, ends-iff, waiting-blocks}
+use Rattle.hk_fix.proofs.confluence.every_order.Goals as goal
+
+pub returns-clause-pages : goal.returns-clause-pages
+returns-clause-pages c = λ lay run shape laws seeds sown h all. pages-are lay run seeds shape laws sown (reverse h) all
+
+pub returns-clause-ends : goal.returns-clause-ends
+returns-clause-ends c = λ lay run shape laws seeds sown h all i lt free. ended-reverse h i (status lay run seeds i) (ends-are lay run seeds shape laws sown (reverse h) all i lt free)
+
+pub returns-clause-stops : goal.returns-clause-stops
+returns-clause-stops c = λ lay run shape laws seeds sown i lt. ends-iff lay run seeds shape laws sown i lt
+
+pub returns-clause-waits : goal.returns-clause-waits
+returns-clause-waits c = λ lay run shape laws seeds sown i ps lt e. waiting-blocks lay run seeds shape laws sown i ps lt e

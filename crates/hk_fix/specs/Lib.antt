@@ -1,0 +1,9 @@
+pub mod Calls
+pub mod Facts
+pub mod Fix
+pub mod Meaning
+pub mod Outcomes
+pub mod Pages
+pub mod Results
+pub mod Run
+pub mod Task

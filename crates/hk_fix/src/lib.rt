@@ -1,0 +1,15 @@
+//! What a suspended compiler means, the fixpoint of its runs, and the histories of events that lead there.
+#![tactic(auto)]
+
+mod compiler;
+mod confluence;
+mod event;
+mod polled;
+mod results;
+mod sends;
+
+pub use compiler::{Compiler, Maker, laws, made};
+pub use confluence::every_order;
+pub use event::Event;
+pub use polled::Polled;
+pub use results::{Outcome, Results};
