@@ -1,2 +1,4 @@
+pub mod Families
 pub mod Orders
+pub mod Tasks
 pub mod Waits

@@ -1,4 +1,5 @@
 pub mod Calls
+pub mod Chains
 pub mod Facts
 pub mod Fix
 pub mod Meaning

@@ -1,6 +1,7 @@
 //! What a suspended compiler means, the fixpoint of its runs, and the histories of events that lead there.
 #![tactic(auto)]
 
+mod chains;
 mod compiler;
 mod confluence;
 mod event;
@@ -8,6 +9,7 @@ mod polled;
 mod results;
 mod sends;
 
+pub use chains::chains_keep_laws;
 pub use compiler::{Compiler, Maker, laws, made};
 pub use confluence::every_order;
 pub use event::Event;

@@ -1,0 +1,48 @@
+-- What makes the runs of tasks those of a family of compilers.
+use Rattle.std.specs.Prelude.{◌≡◌, ◌≢◌, ℕ, ◌<◌, true, List, [], ◌∷◌, nat_eq}
+use Rattle.std.specs.List.{AllByRecursion, IsDistinct, list_any}
+use Rattle.hk_chain.specs.declared.page.Page.{Page}
+use Rattle.hk_chain.specs.Layout.{Shape, pairs, item_of, final_of}
+use Rattle.hk_fix.specs.Pages.{Pages}
+use Rattle.hk_fix.specs.Task.{Task, gives, fails, asks, notes, Note, used, saved}
+
+-- P holds of each group that a task may ask for
+abbrev pub AllGroups : {A : Type 0} → (List ℕ → Type 0) → Task A → Type 0
+AllGroups P (gives x) = Unit {0}
+AllGroups P (fails e) = Unit {0}
+AllGroups P (asks ps f) = P ps × ((xs : List Page) → AllGroups P (f xs))
+AllGroups P (notes n t) = AllGroups P t
+
+abbrev pub Nothing_left : List ℕ → Type 0
+Nothing_left [] = Unit {0}
+Nothing_left (p ∷ ps) = ⊥
+
+abbrev pub Next_is : ℕ → List ℕ → (List ℕ → Type 0) → Type 0
+Next_is p [] P = ⊥
+Next_is p (q ∷ qs) P = (p ≡ q) × P qs
+
+-- a task saves pages for exactly these pairs in order, where it goes through
+abbrev pub Saves : {A : Type 0} → List ℕ → Task A → Type 0
+Saves ps (gives x) = Nothing_left ps
+Saves ps (fails e) = Unit {0}
+Saves ps (asks qs f) = (xs : List Page) → Saves ps (f xs)
+Saves ps (notes (used n) t) = Saves ps t
+Saves ps (notes (saved p x) t) = Next_is p ps (λ qs. Saves qs t)
+
+-- the numbers rise
+abbrev pub Ascending : List ℕ → Type 0
+Ascending [] = Unit {0}
+Ascending (p ∷ ps) = AllByRecursion (λ q. p < q) ps × Ascending ps
+
+-- these are the pairs of an item in order, without the last
+pub record AreSnapshots (lay : Shape) (i : ℕ) (ps : List ℕ) : Type 0 where
+  pub own : AllByRecursion (λ p. (p < pairs lay) × (item_of lay p ≡ i) × (p ≢ final_of lay i)) ps
+  pub rising : Ascending ps
+  pub all : (p : ℕ) → p < pairs lay → item_of lay p ≡ i → p ≢ final_of lay i → list_any (nat_eq p) ps ≡ true
+
+-- each item's task asks for pairs of the layout, for none twice in a group, and saves the item's pairs
+pub record AreChains (lay : Shape) (task : ℕ → Task Page) (snapshots : ℕ → List ℕ) : Type 0 where
+  pub distinct : (i : ℕ) → i < lay.items → AllGroups (IsDistinct nat_eq) (task i)
+  pub within : (i : ℕ) → i < lay.items → AllGroups (AllByRecursion (λ p. p < pairs lay)) (task i)
+  pub saves : (i : ℕ) → i < lay.items → Saves (snapshots i) (task i)
+  pub in_order : (i : ℕ) → i < lay.items → AreSnapshots lay i (snapshots i)
