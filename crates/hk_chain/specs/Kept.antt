@@ -1,6 +1,6 @@
 -- Pages and facts that are known before a run begins.
-use Rattle.std.specs.Prelude.{◌≡◌, ℕ, ◌<◌, List, length, Option, None, is_some, replicate, unwrap_or}
-use Rattle.std.specs.List.{slice_get}
+use Rattle.std.specs.Prelude.{◌≡◌, ℕ, ◌<◌, List, length, Option, None, is_some, replicate}
+use Rattle.std.specs.List.{slice_index_or}
 use Rattle.hk_chain.specs.declared.page.Page.{Page}
 use Rattle.hk_chain.specs.Facts.{FactsView}
 use Rattle.hk_chain.specs.Layout.{Shape, pairs, item_of}
@@ -12,7 +12,7 @@ pub record KeptView : Type 0 where
 
 -- what stands at a place of a list of options, and nothing past its end
 abbrev pub at_place : {A : Type 0} → List (Option A) → ℕ → Option A
-at_place xs n = unwrap_or (slice_get xs n) None
+at_place xs n = slice_index_or xs n None
 
 -- an item has facts and a page for each of its pairs, or neither facts nor any page
 pub record IsKept (lay : Shape) (kept : KeptView) : Type 0 where

@@ -5,6 +5,8 @@ pub mod Fix
 pub mod Meaning
 pub mod Outcomes
 pub mod Pages
+pub mod Report
 pub mod Results
 pub mod Run
 pub mod Task
+pub mod Walks

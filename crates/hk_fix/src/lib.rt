@@ -4,6 +4,7 @@
 mod chains;
 mod compiler;
 mod confluence;
+mod cycles;
 mod event;
 mod polled;
 mod results;
