@@ -1,13 +1,13 @@
 -- The runs of tasks that save their items' pairs keep the laws of a family.
-use Rattle.std.proofs.Common.{◌≡◌, ◌≢◌, refl, sym, ap, ◌∙◌, subst, arith, ℕ, ◌<◌, List, [], ◌∷◌, ◌++◌, append-nil, map, Option, Some, None, Bool, true, false, cond, ◌||◌, is_some, nat_eq, eqb-true, All}
-use Rattle.std.specs.List.{AllByRecursion, IsDistinct, list_any}
+use Rattle.std.proofs.Common.{◌≡◌, ◌≢◌, refl, ap, ◌∙◌, subst, arith, ℕ, ◌<◌, List, [], ◌∷◌, ◌++◌, map, Option, Some, None, Bool, true, false, cond, ◌||◌, is_some, nat_eq, eqb-true}
+use Rattle.std.specs.List.{AllByRecursion, list_any}
 use Rattle.std.proofs.lemmas.List.Elements.{All-from_recursion, recursion_from_All}
 use Rattle.hk_chain.specs.declared.page.Page.{Page}
 use Rattle.hk_chain.specs.Layout.{Shape, pairs, item_of, final_of}
-use Rattle.hk_fix.specs.Pages.{Pages, Extends, Begins, lacking, all_pages}
-use Rattle.hk_fix.specs.Task.{Task, gives, fails, asks, notes, Note, used, saved, Mark, asked, note, End, done, fault, waits, Run, run, onward, answered}
-use Rattle.hk_fix.specs.Run.{Save, asks_of, saves_of, page_in, snapshot, lacked, AllAbove, Rising, IsRun}
-use Rattle.hk_fix.specs.Chains.{AllGroups, Nothing_left, Next_is, Saves, Ascending, AreSnapshots, AreChains}
+use Rattle.hk_fix.specs.Pages.{Pages, Begins, lacking, all_pages}
+use Rattle.hk_fix.specs.Task.{Task, gives, fails, asks, notes, used, saved, Mark, done, run, answered}
+use Rattle.hk_fix.specs.Run.{Save, asks_of, saves_of, page_in, snapshot, AllAbove, Rising, IsRun}
+use Rattle.hk_fix.specs.Chains.{Nothing_left, Next_is, Saves, Ascending, AreChains}
 use Rattle.hk_fix.proofs.Tasks.{run_waits, run_some, run_once, run_still, run_same, run_grows, run_within}
 
 -- the pairs of the saves of a log

@@ -1,5 +1,7 @@
+pub mod Empties
 pub mod Families
 pub mod Orders
+pub mod Reports
 pub mod Searching
 pub mod Steps
 pub mod Tasks

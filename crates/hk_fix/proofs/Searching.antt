@@ -1,18 +1,18 @@
 -- One more walk: what it leaves marked stands where it stands.
-use Rattle.std.proofs.Common.{◌≡◌, ◌≢◌, refl, sym, ap, ◌∙◌, subst, arith, ℕ, zero, suc, ◌+◌, ◌<◌, ◌≤◌, Bool, true, false, cond, ◌||◌, ◌⊎◌, inl, inr, List, [], ◌∷◌, ◌++◌, length, reverse, Option, Some, None, is_some, is_none, nat_eq, nat_lt, eqb-true, eq-eqb, ltb-true, ltb-false, length-append, All}
+use Rattle.std.proofs.Common.{◌≡◌, ◌≢◌, refl, sym, ap, ◌∙◌, subst, arith, ℕ, ◌+◌, ◌<◌, ◌≤◌, Bool, true, false, cond, ◌||◌, ◌⊎◌, inl, inr, List, [], ◌∷◌, ◌++◌, length, reverse, Option, Some, None, is_some, is_none, nat_eq, nat_lt, eqb-true, eq-eqb, ltb-true, ltb-false, length-append, All}
 use Rattle.std.specs.List.{AllByRecursion, IsDistinct}
 use Rattle.std.proofs.lemmas.List.{reverse-append, length-reverse}
 use Rattle.std.proofs.lemmas.List.Elements.{All-from_recursion}
 use Rattle.hk_chain.specs.Kept.{at_place}
 use Rattle.hk_fix.specs.declared.cycles.Place.{Place}
-use Rattle.hk_fix.specs.declared.cycles.Place.TheVariants.{Off, Member, First}
+use Rattle.hk_fix.specs.declared.cycles.Place.TheVariants.{Off}
 use Rattle.hk_fix.specs.Facts.{is_in}
-use Rattle.hk_fix.specs.Report.{trail, before, followers, on_cycle, is_least, members}
-use Rattle.hk_fix.specs.Walks.{LeadsIn, IsWalk, unreached, Walking, Walked, Marked, Searched, place_at, place_by, place_of}
-use Rattle.hk_fix.proofs.Orders.{clash, decide, or_cases, or_right, none-of, the_some}
-use Rattle.hk_fix.proofs.Trails.{or_left, in-append, in-left, in-right, in-here, split-at, Path, walk-path, walk-step, walk-off, Closed, round-closed, trail-has, trail-path, greater-member, least-member, round-members}
+use Rattle.hk_fix.specs.Report.{trail, on_cycle, is_least, members}
+use Rattle.hk_fix.specs.Walks.{IsWalk, unreached, Walking, Walked, Marked, Searched, place_at, place_by, place_of}
+use Rattle.hk_fix.proofs.Orders.{clash, decide, or_cases, or_right}
+use Rattle.hk_fix.proofs.Trails.{or_left, in-append, in-left, in-right, in-here, split-at, Path, walk-path, walk-step, walk-off, Closed, round-closed, trail-has, greater-member, least-member, round-members}
 
-all-holds : (P : ℕ → Type 0) (xs : List ℕ) (m : ℕ) → AllByRecursion P xs → is_in xs m ≡ true → P m
+pub all-holds : (P : ℕ → Type 0) (xs : List ℕ) (m : ℕ) → AllByRecursion P xs → is_in xs m ≡ true → P m
 all-holds P [] m h e = cc
 all-holds P (x ∷ xs) m h e =
     elim (or_cases (nat_eq m x) (is_in xs m) e) [

@@ -1,5 +1,5 @@
 -- A step of a walk, and what the marks of a walk say.
-use Rattle.std.proofs.Common.{◌≡◌, ◌≢◌, refl, sym, ap, ◌∙◌, subst, arith, ℕ, zero, suc, ◌+◌, ◌-◌, ◌<◌, ◌≤◌, Bool, true, false, cond, ◌||◌, ◌⊎◌, inl, inr, List, [], ◌∷◌, ◌++◌, length, get_or, set, Option, Some, None, is_some, is_none, nat_eq, eqb-true, eq-eqb, get_or-set_other, get_or-set_same, length-set, Contains, All}
+use Rattle.std.proofs.Common.{◌≡◌, refl, sym, ap, ◌∙◌, arith, ℕ, zero, suc, ◌+◌, ◌-◌, ◌<◌, ◌≤◌, Bool, true, false, cond, ◌||◌, inl, inr, List, [], ◌∷◌, length, get_or, set, Option, Some, None, nat_eq, eqb-true, eq-eqb, get_or-set_other, get_or-set_same, length-set, Contains, All}
 use Rattle.std.proofs.lemmas.List.Elements.{recursion_from_All}
 use Rattle.std.specs.List.{AllByRecursion, IsDistinct}
 use Rattle.hk_chain.specs.Kept.{at_place}
@@ -7,8 +7,8 @@ use Rattle.hk_fix.specs.Facts.{is_in}
 use Rattle.hk_fix.specs.declared.cycles.Place.{Place}
 use Rattle.hk_fix.specs.declared.cycles.Place.TheVariants.{Off, Member, First}
 use Rattle.hk_fix.specs.Report.{trail, before}
-use Rattle.hk_fix.specs.Walks.{IsWalk, unreached, Walking, Walked, LeadsIn, Marked, place_at, place_by}
-use Rattle.hk_fix.proofs.Orders.{clash, decide, or_cases, or_right, none-of}
+use Rattle.hk_fix.specs.Walks.{unreached, Walking, Marked, place_at, place_by}
+use Rattle.hk_fix.proofs.Orders.{clash, decide, or_cases, or_right}
 
 pub set-none : (xs : List (Option ℕ)) (c v : ℕ) → c < length xs → at_place xs c ≡ None → unreached (set xs c (Some v)) + 1 ≡ unreached xs
 set-none [] c v lt e = absurd (omega arith)

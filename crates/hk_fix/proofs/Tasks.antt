@@ -1,13 +1,12 @@
 -- The laws of every task's runs.
-use Rattle.std.proofs.Common.{◌≡◌, ◌≢◌, refl, sym, ap, ◌∙◌, subst, arith, ℕ, zero, suc, ◌+◌, ◌<◌, ◌≤◌, List, [], ◌∷◌, ◌++◌, append_assoc, append-nil, length, Option, Some, None, Bool, true, false, cond, is_some, is_none, nat_eq, filter, All, Contains, ◌⊎◌, inl, inr}
+use Rattle.std.proofs.Common.{◌≡◌, refl, sym, ap, ◌∙◌, subst, arith, ℕ, ◌<◌, List, [], ◌∷◌, ◌++◌, append_assoc, append-nil, length, Option, Some, None, Bool, true, false, cond, is_some, is_none, nat_eq, filter, Contains}
 use Rattle.std.proofs.Math.Path.{fun_ext}
 use Rattle.std.specs.List.{AllByRecursion, IsDistinct}
-use Rattle.std.proofs.lemmas.List.Elements.{All-from_recursion, recursion_from_All, All-weaker, All-contains, filter-append}
+use Rattle.std.proofs.lemmas.List.Elements.{All-from_recursion, All-contains, filter-append}
 use Rattle.hk_chain.specs.declared.page.Page.{Page}
-use Rattle.hk_chain.specs.declared.fault.Fault.{Fault}
 use Rattle.hk_fix.specs.Pages.{Pages, Extends, Begins, lacking, with_page, all_pages}
-use Rattle.hk_fix.specs.Task.{Task, gives, fails, asks, notes, ◌▷◌, Note, Mark, asked, note, End, done, fault, waits, Run, run, onward, answered}
-use Rattle.hk_fix.specs.Run.{asks_of, lacked, is_wait}
+use Rattle.hk_fix.specs.Task.{Task, gives, fails, asks, notes, ◌▷◌, Mark, asked, note, End, done, fault, waits, Run, run, onward, answered}
+use Rattle.hk_fix.specs.Run.{asks_of, lacked}
 use Rattle.hk_fix.specs.Chains.{AllGroups}
 
 module _ {A B C : Type 0} where

@@ -1,14 +1,14 @@
 -- Items that lead to one another: trails, cycles and what leads into one.
-use Rattle.std.proofs.Common.{◌≡◌, ◌≢◌, refl, sym, ap, ◌∙◌, subst, arith, ℕ, zero, suc, ◌+◌, ◌<◌, ◌≤◌, Bool, true, false, cond, ◌||◌, ◌&&◌, ◌⊎◌, inl, inr, List, [], ◌∷◌, ◌++◌, length, reverse, append_assoc, Option, Some, None, is_some, nat_eq, nat_le, eqb-true, eq-eqb, length-append}
-use Rattle.std.proofs.lemmas.List.{reverse-append, length-reverse}
+use Rattle.std.proofs.Common.{◌≡◌, refl, sym, ap, ◌∙◌, subst, arith, ℕ, zero, suc, ◌+◌, ◌<◌, ◌≤◌, Bool, true, false, cond, ◌||◌, ◌&&◌, ◌⊎◌, inl, inr, List, [], ◌∷◌, ◌++◌, length, reverse, append_assoc, Option, Some, None, nat_eq, nat_le, eqb-true, eq-eqb, length-append}
+use Rattle.std.proofs.lemmas.List.{reverse-append}
 use Rattle.std.proofs.lemmas.List.Folds.{list_any-append}
 use Rattle.std.proofs.lemmas.Bool.{leb-true, le-leb}
-use Rattle.std.specs.List.{AllByRecursion, IsDistinct, list_any, list_all}
+use Rattle.std.specs.List.{AllByRecursion, IsDistinct, list_all}
 use Rattle.hk_chain.specs.Kept.{at_place}
 use Rattle.hk_fix.specs.Facts.{is_in}
-use Rattle.hk_fix.specs.Report.{trail_by, trail, before, followers, on_cycle, is_least, members}
+use Rattle.hk_fix.specs.Report.{trail_by, trail, before, followers, on_cycle, is_least}
 use Rattle.hk_fix.specs.Walks.{IsWalk}
-use Rattle.hk_fix.proofs.Orders.{clash, decide, or_cases, or_right, the_some}
+use Rattle.hk_fix.proofs.Orders.{clash, decide, or_cases, or_right}
 
 pub or_left : (a b : Bool) → a ≡ true → (a || b) ≡ true
 or_left true b e = refl
@@ -191,12 +191,13 @@ module _ (leads : List (Option ℕ)) where
             let same : w ≡ y = cc in
             let tail : rest ≡ a ++ q ∷ b = cc in
             let p : Path w (a ++ q ∷ (b ++ w ∷ [])) w = subst (λ (l : List ℕ). Path w l w) (ap (λ (l : List ℕ). l ++ w ∷ []) tail ∙ append_assoc a (q ∷ b) (w ∷ [])) round in
-            let r = path-split w a q (b ++ w ∷ []) w p in
-            ((b ++ w ∷ []) ++ (a ++ q ∷ []),
-            path-append q (b ++ w ∷ []) w (a ++ q ∷ []) q r.1 r.0,
-            omega (arith, length-append (b ++ w ∷ []) (a ++ q ∷ []), length-append b (w ∷ []), length-append a (q ∷ []), length-append a (q ∷ b), ap length tail),
-            λ m j. in-append (b ++ w ∷ []) (a ++ q ∷ []) m ∙ (ap (λ t. t || is_in (a ++ q ∷ []) m) (in-append b (w ∷ []) m) ∙ (ap (λ t. (is_in b m || (nat_eq m w || false)) || t) (in-append a (q ∷ []) m)
-            ∙ turned (nat_eq m w) (is_in a m) (nat_eq m q) (is_in b m) (sym (ap (λ t. nat_eq m w || t) (ap (λ (l : List ℕ). is_in l m) tail ∙ in-append a (q ∷ b) m)) ∙ j))))
+            let r = path-split w a q (b ++ w ∷ []) w p in (
+              (b ++ w ∷ []) ++ (a ++ q ∷ []),
+              path-append q (b ++ w ∷ []) w (a ++ q ∷ []) q r.1 r.0,
+              omega (arith, length-append (b ++ w ∷ []) (a ++ q ∷ []), length-append b (w ∷ []), length-append a (q ∷ []), length-append a (q ∷ b), ap length tail),
+              λ m j. in-append (b ++ w ∷ []) (a ++ q ∷ []) m ∙ (ap (λ t. t || is_in (a ++ q ∷ []) m) (in-append b (w ∷ []) m) ∙ (ap (λ t. (is_in b m || (nat_eq m w || false)) || t) (in-append a (q ∷ []) m)
+                  ∙ turned (nat_eq m w) (is_in a m) (nat_eq m q) (is_in b m) (sym (ap (λ t. nat_eq m w || t) (ap (λ (l : List ℕ). is_in l m) tail ∙ in-append a (q ∷ b) m)) ∙ j))),
+            )
 
         by : (a b : List ℕ) × (w ∷ rest ≡ a ++ q ∷ b) → (xs : List ℕ) × Path q xs q × (length xs ≡ length rest + 1) × ((m : ℕ) → is_in (w ∷ rest) m ≡ true → is_in xs m ≡ true)
         by s = at s.0 s.1 s.2

@@ -3,8 +3,7 @@ use Rattle.std.specs.Prelude.{◌≡◌, ◌≢◌, ℕ, ◌<◌, true, List, []
 use Rattle.std.specs.List.{AllByRecursion, IsDistinct, list_any}
 use Rattle.hk_chain.specs.declared.page.Page.{Page}
 use Rattle.hk_chain.specs.Layout.{Shape, pairs, item_of, final_of}
-use Rattle.hk_fix.specs.Pages.{Pages}
-use Rattle.hk_fix.specs.Task.{Task, gives, fails, asks, notes, Note, used, saved}
+use Rattle.hk_fix.specs.Task.{Task, gives, fails, asks, notes, used, saved}
 
 -- P holds of each group that a task may ask for
 abbrev pub AllGroups : {A : Type 0} → (List ℕ → Type 0) → Task A → Type 0

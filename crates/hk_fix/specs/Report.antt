@@ -1,10 +1,10 @@
 -- What a run's end leaves to report: failed items, cycles of waiting items, and all other items that wait.
-use Rattle.std.specs.Prelude.{◌≡◌, ℕ, zero, suc, Bool, true, false, cond, ◌&&◌, not, List, [], ◌∷◌, ◌++◌, length, map, Option, Some, None, is_some, nat_eq, nat_le, filter}
-use Rattle.std.specs.List.{list_any, list_all, slice_get}
+use Rattle.std.specs.Prelude.{◌≡◌, ℕ, zero, suc, Bool, true, false, cond, ◌&&◌, not, List, [], ◌∷◌, ◌++◌, length, map, Option, Some, None, nat_eq, nat_le, filter, ◌<◌, All}
+use Rattle.std.specs.List.{list_all, slice_get, slice_index_or}
 use Rattle.hk_chain.specs.Kept.{at_place}
-use Rattle.hk_chain.specs.Layout.{Shape, item_of}
+use Rattle.hk_chain.specs.Layout.{Shape, item_of, pairs}
 use Rattle.hk_fix.specs.Facts.{is_in}
-use Rattle.hk_fix.specs.Fix.{Ending, finished, faulted, waiting}
+use Rattle.hk_fix.specs.Fix.{Ending, finished, faulted, waiting, Blocks}
 
 -- a waiting item leads to the item of the first pair that it waits for
 abbrev pub lead_of : Shape → Ending → Option ℕ
@@ -71,12 +71,44 @@ pub record ReportView : Type 0 where
   pub cycles : List (List ℕ)
   pub blocked : List (ℕ × List ℕ)
 
--- the failed items, each cycle from its least member, and the waiting items on no cycle with their pairs, each in order
+-- the failed items, in order
+abbrev pub failed_of : List Ending → List ℕ
+failed_of outcomes = filter (λ i. is_faulted (slice_get outcomes i)) (upto (length outcomes))
+
+-- each cycle from its least member, in the order of these
+abbrev pub cycles_of : List (Option ℕ) → List (List ℕ)
+cycles_of leads = map (members leads) (filter (λ i. on_cycle leads i && is_least leads i) (upto (length leads)))
+
+-- the waiting items on no cycle, in order, with their pairs
+abbrev pub blocked_of : List (Option ℕ) → List Ending → List (ℕ × List ℕ)
+blocked_of leads outcomes =
+    map (λ i. (i, waits_of (slice_get outcomes i))) (filter (λ i. not (on_cycle leads i) && is_waiting (slice_get outcomes i)) (upto (length outcomes)))
+
 abbrev pub report_of : Shape → List Ending → ReportView
 report_of lay outcomes =
     let leads : List (Option ℕ) = map (lead_of lay) outcomes in
-    record {
-      failed = filter (λ i. is_faulted (slice_get outcomes i)) (upto (length outcomes));
-      cycles = map (members leads) (filter (λ i. on_cycle leads i && is_least leads i) (upto (length outcomes)));
-      blocked = map (λ i. (i, waits_of (slice_get outcomes i))) (filter (λ i. is_waiting (slice_get outcomes i) && not (on_cycle leads i)) (upto (length outcomes)));
-    }
+    record { failed = failed_of outcomes; cycles = cycles_of leads; blocked = blocked_of leads outcomes }
+
+-- there is nothing to report
+abbrev pub IsEmptyReport : ReportView → Type 0
+IsEmptyReport r = (r.failed ≡ []) × (r.cycles ≡ []) × (r.blocked ≡ [])
+
+abbrev pub ending_at : List Ending → ℕ → Ending
+ending_at outcomes i = slice_index_or outcomes i (waiting [])
+
+abbrev pub WaitsFor : Shape → List Ending → Ending → Type 0
+WaitsFor lay outcomes (finished facts) = Unit {0}
+WaitsFor lay outcomes (faulted e) = Unit {0}
+WaitsFor lay outcomes (waiting ps) = Blocks lay (ending_at outcomes) ps
+
+-- each item has an outcome, and each that waits does so for pairs, at least one, of items that aren't done
+pub record CanReport (lay : Shape) (outcomes : List Ending) : Type 0 where
+  pub count : length outcomes ≡ lay.items
+  pub blocks : All (WaitsFor lay outcomes) outcomes
+
+-- the first pair that an item waits for is one of the layout
+abbrev pub FirstIn : Shape → Ending → Type 0
+FirstIn lay (finished facts) = Unit {0}
+FirstIn lay (faulted e) = Unit {0}
+FirstIn lay (waiting []) = Unit {0}
+FirstIn lay (waiting (p ∷ ps)) = p < pairs lay

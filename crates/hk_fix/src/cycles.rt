@@ -6,6 +6,7 @@ ghost use Rattle.hk_fix.specs.Report.{on_cycle};
 ghost use Rattle.hk_fix.specs.Walks.{LeadsIn, Walked, Marked, Searched, place_at, place_of};
 
 use hk_base::NoMemory;
+use hk_chain::ItemNo;
 use std::alloc::Global;
 
 /// Where an item stands: on no cycle, on one, or on one as its least member.
@@ -79,20 +80,20 @@ pub(crate) fn members(
     alloc: Global,
     leads: &[Option<u32>],
     item: u32,
-) -> Result<Vec<u32>, NoMemory>
+) -> Result<Vec<ItemNo>, NoMemory>
     requires range { LeadsIn leads.now }
     requires in_range { item < length leads.now }
     requires on_cycle { on_cycle leads.now item ≡ true }
     ensures { IfOk result (λ v. v.items ≡ spec.members leads.now item) }
 {
     let mut found = Vec::new(alloc);
-    found.push(item)?;
+    found.push(ItemNo(item))?;
     let mut current = item;
     for _ in 0..leads.len() {
         let follower = leads[current as usize];
         match follower {
             Some(next) if next != item => {
-                found.push(next)?;
+                found.push(ItemNo(next))?;
                 current = next;
             }
             _ => return Ok(found),
@@ -102,27 +103,28 @@ pub(crate) fn members(
 }
 
 /// Marks the members of a cycle.
-fn mark(around: &[u32], places: &mut [Place])
+fn mark(around: &[ItemNo], places: &mut [Place])
     requires some { 0 < length around.now }
     requires range { All (λ q. q < length places.old) around.now }
     ensures { Marked around.now places.old places.new }
 {
     let first = least(around);
     for item in around {
-        places[*item as usize] = Place::Member;
+        places[item.0 as usize] = Place::Member;
     }
     places[first as usize] = Place::First;
 }
 
-fn least(around: &[u32]) -> u32
+fn least(around: &[ItemNo]) -> u32
     requires { 0 < length around.now }
     ensures member { Contains around.now result }
     ensures below { All (λ q. result ≤ q) around.now }
 {
-    let mut first = around[0];
+    let start = around[0];
+    let mut first = start.0;
     for item in around {
-        if *item < first {
-            first = *item;
+        if item.0 < first {
+            first = item.0;
         }
     }
     first

@@ -5,14 +5,18 @@ mod chains;
 mod compiler;
 mod confluence;
 mod cycles;
+mod ending;
 mod event;
 mod polled;
+mod reported;
 mod results;
 mod sends;
 
 pub use chains::chains_keep_laws;
 pub use compiler::{Compiler, Maker, laws, made};
 pub use confluence::every_order;
+pub use ending::report;
 pub use event::Event;
 pub use polled::Polled;
+pub use reported::Report;
 pub use results::{Outcome, Results};

@@ -1,4 +1,4 @@
-use Rattle.std.proofs.Common.{◌≡◌, ap, ◌∙◌, ℕ, ◌<◌, length, take, cond}
+use Rattle.std.proofs.Common.{◌≡◌, ap, ◌∙◌, take, cond}
 use Rattle.std.proofs.lemmas.List.{take_all}
 use Rattle.hk_fix.specs.declared.cycles.Place.TheVariants.{Member}
 use Rattle.hk_fix.specs.Facts.{is_in}

@@ -1,8 +1,6 @@
-use Rattle.std.proofs.Common.{◌≡◌, ◌<◌, ◌+◌, ◌-◌, refl, sym, ap, ◌∙◌, arith, ℕ, List, [], ◌∷◌, ◌++◌, append_assoc, append-nil, false, true, Some, None, length, rules}
-use Rattle.hk_chain.specs.Kept.{at_place}
+use Rattle.std.proofs.Common.{◌≡◌, ◌<◌, ◌+◌, ◌-◌, sym, ap, ◌∙◌, arith, ℕ, List, [], ◌∷◌, ◌++◌, append_assoc, append-nil, length}
 use Rattle.hk_fix.specs.Facts.{is_in}
 use Rattle.hk_fix.specs.Report.{trail, before, members}
-use Rattle.hk_fix.proofs.Orders.{clash}
 use Rattle.hk_fix.proofs.Steps.{trail-step, trail-end, before-other, before-same, in-other}
 use Rattle.hk_fix.proofs.cycles.members.Goals as goal
 use Rattle.hk_fix.proofs.cycles.members.Goals.{in_default-via-in-Some+else-next-item, in_default-via-in_default}

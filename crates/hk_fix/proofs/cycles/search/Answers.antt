@@ -1,4 +1,4 @@
-use Rattle.std.proofs.Common.{◌≡◌, ◌<◌, sym, ◌∙◌, subst, ℕ, List, Option, None, All, length}
+use Rattle.std.proofs.Common.{◌≡◌, ◌<◌, sym, ◌∙◌, subst, ℕ, List, Option, All, length}
 use Rattle.hk_fix.specs.Report.{members}
 use Rattle.hk_fix.specs.Walks.{Marked, Walked}
 use Rattle.hk_fix.proofs.Searching.{search-lost, search-found, found-in, found-on, found-members}

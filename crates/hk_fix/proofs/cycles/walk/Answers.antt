@@ -1,6 +1,5 @@
-use Rattle.std.proofs.Common.{◌≡◌, ◌<◌, refl, ap, ◌∙◌, arith, false, Some, None, is_some, not, length, get_or, set}
+use Rattle.std.proofs.Common.{◌≡◌, ap, ◌∙◌, arith, None, not, get_or}
 use Rattle.hk_chain.specs.Kept.{at_place}
-use Rattle.hk_fix.specs.Walks.{Walking, unreached}
 use Rattle.hk_fix.proofs.Orders.{none-of}
 use Rattle.hk_fix.proofs.Steps.{start-walking, walk-on, set-none}
 use Rattle.hk_fix.proofs.cycles.walk.Goals as goal
