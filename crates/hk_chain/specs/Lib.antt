@@ -1,4 +1,5 @@
 pub mod Context
+pub mod Counts
 pub mod Facts
 pub mod Kept
 pub mod Layout
