@@ -1,11 +1,12 @@
 -- What an item waits for in the fixpoint, and histories read from either end.
 use Rattle.std.proofs.Common.{◌≡◌, ◌↔◌, refl, sym, ap, ◌∙◌, subst, ℕ, ◌<◌, Bool, true, false, ◌||◌, inl, inr, List, [], ◌∷◌, ◌++◌, length, reverse, Option, Some, None, is_some, is_none, nat_eq, All, filter, arith, eq-eqb}
 use Rattle.std.specs.List.{AllByRecursion}
-use Rattle.std.proofs.lemmas.List.{reverse-append}
+use Rattle.std.proofs.lemmas.List.{reverse-append, get_or_past}
 use Rattle.std.proofs.Math.Bool.{or_comm, or_assoc}
 use Rattle.std.proofs.lemmas.List.Elements.{recursion_from_All, All-weaker, All-filter, filter_passes}
 use Rattle.hk_chain.specs.declared.page.Page.{Page}
 use Rattle.hk_chain.specs.Facts.{FactsView}
+use Rattle.hk_chain.specs.Kept.{KeptView, IsKept}
 use Rattle.hk_chain.specs.Layout.{Shape, IsShape, pairs, item_of, final_of}
 use Rattle.hk_fix.specs.declared.event.Event.{Event}
 use Rattle.hk_fix.specs.declared.event.Event.TheVariants.{Done, Failed}
@@ -13,8 +14,8 @@ use Rattle.hk_fix.specs.Pages.{Pages, lacking}
 use Rattle.hk_fix.specs.Task.{Mark, End, done, fault, waits, Run}
 use Rattle.hk_fix.specs.Run.{asks_of, finished_page, page_of, lacked, is_wait, IsRun}
 use Rattle.hk_fix.specs.Facts.{whole_log}
-use Rattle.hk_fix.specs.Fix.{Seeds, IsSeeds, seeded, Ending, finished, faulted, waiting, is_finished, ends_with, ending_of, fix, status, same_event, stands, HasEnded, Blocks}
-use Rattle.hk_fix.proofs.Orders.{clash, decide, the_some, none-of, page-snapshot, page-final, asked-known, closed, known-upward}
+use Rattle.hk_fix.specs.Fix.{Seeds, IsSeeds, seeded, Ending, finished, faulted, waiting, is_finished, ends_with, ending_of, fix, status, same_event, stands, HasEnded, Blocks, LawfulNewest, after, seeds_of}
+use Rattle.hk_fix.proofs.Orders.{clash, decide, the_some, none-of, page-snapshot, page-final, asked-known, closed, known-upward, settled, sound}
 
 -- histories from either end
 
@@ -139,3 +140,15 @@ module _ (lay : Shape) (run : ℕ → Pages → Run Page) (seeds : Seeds) (shape
             let w : ends_with (whole_log lay i (run i (fix lay run seeds))) (run i (fix lay run seeds)).end ≡ waiting l = rw (none-of (seeds.facts i) s) at e in
             waits-are i l lt (waiting-of (whole_log lay i (run i (fix lay run seeds))) (run i (fix lay run seeds)).end l w)
       ]
+
+  -- what is known after a lawful history is in the fixpoint, so that an item ends as it does there
+  pub ends-early : (h : List Event) (i : ℕ) → LawfulNewest lay run seeds h → i < lay.items → is_wait (run i (after lay run seeds h)).end ≡ false → run i (fix lay run seeds) ≡ run i (after lay run seeds h)
+  ends-early h i lawful lt still = settled lay run seeds shape laws sown i (after lay run seeds h) (fix lay run seeds) lt (sound lay run seeds shape laws sown h lawful) still
+
+-- kept pages and facts are seeds
+pub kept-sown : (lay : Shape) (kept : KeptView) → IsKept lay kept → IsSeeds lay (seeds_of kept)
+kept-sown lay kept is =
+    record {
+      each = is.each;
+      none = λ p le. get_or_past kept.pages p None (omega (arith, is.page_count));
+    }

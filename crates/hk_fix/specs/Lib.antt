@@ -8,5 +8,6 @@ pub mod Pages
 pub mod Report
 pub mod Results
 pub mod Run
+pub mod Site
 pub mod Task
 pub mod Walks

@@ -14,7 +14,7 @@ mod sends;
 
 pub use chains::chains_keep_laws;
 pub use compiler::{Compiler, Maker, laws, made};
-pub use confluence::every_order;
+pub use confluence::{every_order, kept_are_seeds};
 pub use ending::report;
 pub use event::Event;
 pub use polled::Polled;

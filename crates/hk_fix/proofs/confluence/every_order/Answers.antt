@@ -1,7 +1,7 @@
 use Rattle.std.proofs.Common.{reverse}
 use Rattle.hk_fix.specs.Fix.{status}
-use Rattle.hk_fix.proofs.Orders.{pages-are, ends-are}
-use Rattle.hk_fix.proofs.Waits.{ended-reverse, ends-iff, waiting-blocks}
+use Rattle.hk_fix.proofs.Orders.{pages-are, ends-are, sound}
+use Rattle.hk_fix.proofs.Waits.{ended-reverse, ends-iff, ends-early, waiting-blocks}
 use Rattle.hk_fix.proofs.confluence.every_order.Goals as goal
 
 pub returns-clause-pages : goal.returns-clause-pages
@@ -15,3 +15,9 @@ returns-clause-stops c = λ lay run shape laws seeds sown i lt. ends-iff lay run
 
 pub returns-clause-waits : goal.returns-clause-waits
 returns-clause-waits c = λ lay run shape laws seeds sown i ps lt e. waiting-blocks lay run seeds shape laws sown i ps lt e
+
+pub returns-clause-within : goal.returns-clause-within
+returns-clause-within c = λ lay run shape laws seeds sown h lawful. sound lay run seeds shape laws sown (reverse h) lawful
+
+pub returns-clause-early : goal.returns-clause-early
+returns-clause-early c = λ lay run shape laws seeds sown h lawful i lt still. ends-early lay run seeds shape laws sown (reverse h) i lawful lt still
