@@ -106,10 +106,10 @@ firsts-in lay outcomes can k d lt =
     first-in lay (map outcome_view outcomes) (outcome_view (get_or outcomes k d))
     (subst (WaitsFor lay (map outcome_view outcomes)) e (can.blocks k (waiting []) (omega (arith, length-map outcomes outcome_view, lt))))
 
-pub leads-in : (lay : Shape) (outcomes : List Outcome) → IsShape lay → CanReport lay (map outcome_view outcomes) → LeadsIn (map (λ o. lead_of lay (outcome_view o)) outcomes)
-leads-in lay outcomes s can q w e =
+pub leads-in : (lay : Shape) (outcomes : List Outcome) → IsShape lay → length outcomes ≡ lay.items → All (λ o. FirstIn lay (outcome_view o)) outcomes → LeadsIn (map (λ o. lead_of lay (outcome_view o)) outcomes)
+leads-in lay outcomes s count firsts q w e =
     elim (decide (nat_lt q (length outcomes))) [
-      | inl t ↦ omega (arith, length-map outcomes (λ o. lead_of lay (outcome_view o)), length-map outcomes outcome_view, can.count, inside (ltb-true q (length outcomes) t))
+      | inl t ↦ omega (arith, length-map outcomes (λ o. lead_of lay (outcome_view o)), count, inside (ltb-true q (length outcomes) t))
       | inr f ↦ let none : get_or (map (λ o. lead_of lay (outcome_view o)) outcomes) q None ≡ None = get_or_past (map (λ o. lead_of lay (outcome_view o)) outcomes) q None (omega (arith, length-map outcomes (λ o. lead_of lay (outcome_view o)), ltb-false q (length outcomes) f)) in cc
     ]
   where
@@ -121,4 +121,4 @@ leads-in lay outcomes s can q w e =
     inside lt =
         let d : Outcome = the_first outcomes q lt in
         let at : get_or (map (λ o. lead_of lay (outcome_view o)) outcomes) q None ≡ lead_of lay (outcome_view (get_or outcomes q d)) = get_or-map (λ o. lead_of lay (outcome_view o)) outcomes q d None lt in
-        lead-in lay (outcome_view (get_or outcomes q d)) w s (firsts-in lay outcomes can q d lt) (sym at ∙ e)
+        lead-in lay (outcome_view (get_or outcomes q d)) w s (firsts q d lt) (sym at ∙ e)

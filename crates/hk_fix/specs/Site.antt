@@ -1,8 +1,6 @@
 -- The files of a site: what the finished items with a target have for their finished pages.
 use Rattle.std.specs.Prelude.{ℕ, List, [], ◌∷◌, Option, Some, None}
 use Rattle.std.specs.List.{flat_map}
-use Rattle.std.specs.Ordering.{nat_cmp}
-use Rattle.std.specs.Cmp.Lexicographic.{slice_cmp}
 use Rattle.std.specs.FinMap.{from_entries}
 use Rattle.hk_base.specs.Bytes.{Bytes, Files}
 use Rattle.hk_chain.specs.declared.page.Page.{Page}

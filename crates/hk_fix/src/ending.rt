@@ -23,8 +23,13 @@ pub fn report(alloc: Global, layout: &Layout, results: &Results) -> Result<Repor
     report_on(alloc, layout, &results.outcomes)
 }
 
-fn report_on(alloc: Global, layout: &Layout, outcomes: &[Outcome]) -> Result<Report, NoMemory>
-    requires { CanReport layout.now (map outcome_view outcomes.now) }
+pub(crate) fn report_on(
+    alloc: Global,
+    layout: &Layout,
+    outcomes: &[Outcome],
+) -> Result<Report, NoMemory>
+    requires count { length outcomes.now ≡ layout.now.items }
+    requires firsts { All (λ o. FirstIn layout.now (outcome_view o)) outcomes.now }
     ensures { IfOk result (λ r. r ≡ report_of layout.now (map outcome_view outcomes.now)) }
 {
     let _items = layout.items();

@@ -11,6 +11,8 @@ mod polled;
 mod reported;
 mod results;
 mod sends;
+#[cfg(test)]
+mod tests;
 
 pub use chains::chains_keep_laws;
 pub use compiler::{Compiler, Maker, laws, made};

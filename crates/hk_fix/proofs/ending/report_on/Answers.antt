@@ -3,19 +3,16 @@ use Rattle.std.proofs.lemmas.Simd.{map-map}
 use Rattle.hk_fix.specs.Outcomes.{outcome_view}
 use Rattle.hk_fix.specs.Report.{ReportView, lead_of, cycles_of, blocked_of, failed_of}
 use Rattle.hk_fix.specs.Walks.{LeadsIn}
-use Rattle.hk_fix.proofs.Reports.{firsts-in, leads-in}
+use Rattle.hk_fix.proofs.Reports.{leads-in}
 use Rattle.hk_fix.proofs.ending.report_on.Goals as goal
-
-pub leads-requires : goal.leads-requires
-leads-requires c = firsts-in c.args.layout.now c.args.outcomes.now c.requires
 
 pub places-requires-clause-range : goal.places-requires-clause-range
 places-requires-clause-range c =
-    subst LeadsIn (sym (c.deref.ensures.value ∙ c.in_ok-leads.ensures)) (leads-in c.args.layout.now c.args.outcomes.now c.items-items.ensures.valid.shape c.requires)
+    subst LeadsIn (sym (c.deref.ensures.value ∙ c.in_ok-leads.ensures)) (leads-in c.args.layout.now c.args.outcomes.now c.items-items.ensures.valid.shape c.requires.count c.requires.firsts)
 
 pub cycles-requires-clause-range : goal.cycles-requires-clause-range
 cycles-requires-clause-range c =
-    subst LeadsIn (sym (c.deref-2.ensures.value ∙ c.in_ok-leads.ensures)) (leads-in c.args.layout.now c.args.outcomes.now c.items-items.ensures.valid.shape c.requires)
+    subst LeadsIn (sym (c.deref-2.ensures.value ∙ c.in_ok-leads.ensures)) (leads-in c.args.layout.now c.args.outcomes.now c.items-items.ensures.valid.shape c.requires.count c.requires.firsts)
 
 same-report : (a a' : List ℕ) (b b' : List (List ℕ)) (d d' : List (ℕ × List ℕ)) → a ≡ a' → b ≡ b' → d ≡ d' → (let r : ReportView = record { failed = a; cycles = b; blocked = d } in r) ≡ (let r : ReportView = record { failed = a'; cycles = b'; blocked = d' } in r)
 same-report a a' b b' d d' e f g = rw (e, f, g) refl
