@@ -2,12 +2,13 @@
 # install  the same under PREFIX, /usr/local where none is given
 # demo     builds the example site in out/demo and prints its pages
 # test     the gate: every proof, test and must-fail edit, and the end-to-end cases
+# allocations   lets each allocation of a build fail in turn, with an unproved build; not part of the gate
 # clean    takes away what the others made
 PREFIX = /usr/local
 program = crates/hk_cli/out/hk_cli
 sources = $(shell find crates -type f -not -path '*/out/*' -not -path '*/must-fail/*')
 
-.PHONY: build install demo test clean
+.PHONY: build install demo test allocations clean
 
 build: hakyll_cli
 
@@ -30,6 +31,9 @@ demo:
 
 test:
 	.ci/run
+
+allocations:
+	tests/allocations
 
 clean:
 	rm -rf hakyll_cli out crates/*/out
