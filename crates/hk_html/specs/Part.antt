@@ -43,7 +43,8 @@ attribute x xs =
 abbrev pub first_part : ℕ → Bytes → Part
 first_part x xs = if is_white x || x == 47 then mark x else attribute x xs
 
--- the parts up to the next `>` between parts, after bytes that belong to the part before; none if no `>` comes
+-- the parts up to the next `>` between parts, or none if no `>` comes; `skip` bytes belong to the part before, and a
+-- part's own bytes after its first are skipped in turn
 abbrev pub parts_after : ℕ → Bytes → Option (List Part)
 parts_after skip [] = None
 parts_after (suc skip) (x ∷ xs) = parts_after skip xs

@@ -51,7 +51,7 @@ first_piece x xs =
     then tag_by x xs (parts_of (after_run is_tag_byte xs))
     else other x
 
--- the pieces, after bytes that belong to the piece before
+-- the pieces after `skip` bytes that belong to the piece before; a piece's own bytes after its first are skipped in turn
 abbrev pub pieces_after : ℕ → Bytes → List Piece
 pieces_after skip [] = []
 pieces_after (suc skip) (x ∷ xs) = pieces_after skip xs

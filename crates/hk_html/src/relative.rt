@@ -14,14 +14,18 @@ use crate::scan::Link;
 use hk_base::{NoMemory, Text};
 use std::alloc::Global;
 
-/// The HTML text of a page with this target, with the way up to the root before each URL that begins with `/` and not
-/// with `//` in an attribute `href` or `src`. All other bytes stay, and all bytes of comments, raw text and tags without
-/// an end. `NoMemory` only for want of memory. Linear.
+/// The HTML text of a page with this target, in which the way up to the site's root stands before each URL that begins
+/// with `/` and not with `//`, in the attributes `href` and `src` of finished tags. All other bytes stay; comments, raw
+/// text and a tag without an end are copied. `NoMemory` only for want of memory. Linear in what it reads and gives.
 pub fn relativize(alloc: Global, body: &[u8], target: &[u8]) -> Result<Text, NoMemory>
     ensures value { IfOk result (λ text. text ≡ with_roots (spec.root_of target.now) body.now) }
+
+    // The text read is its pieces, joined; the text given has the same links, with the root before root URLs.
     ensures joined { OnOk result (flat_map piece_text (pieces body.now) ≡ body.now) }
-    ensures links { IfOk result (λ text. links_of text ≡ map (part.with_root (spec.root_of target.now)) (links_of body.now)) }
-    ensures unchanged { IfOk result (λ text. list_any part.is_rooted (links_of body.now) ≡ false → text ≡ body.now) }
+    ensures links { IfOk result (λ text.
+        links_of text ≡ map (part.with_root (spec.root_of target.now)) (links_of body.now)) }
+    ensures unchanged { IfOk result (λ text.
+        list_any part.is_rooted (links_of body.now) ≡ false → text ≡ body.now) }
 {
     let root = root_of(alloc, target)?;
     let scan = read_links(alloc, body)?;
@@ -55,7 +59,8 @@ fn push_links(text: &mut Vec<u8>, root: &[u8], links: &[Link<'_>]) -> Result<(),
 }
 
 fn push_link(text: &mut Vec<u8>, root: &[u8], before: &[u8], url: &[u8]) -> Result<(), NoMemory>
-    ensures { OnOk result (text.new.items ≡ text.old.items ++ (before.now ++ part.with_root root.now url.now)) }
+    ensures { OnOk result (text.new.items
+        ≡ text.old.items ++ (before.now ++ part.with_root root.now url.now)) }
 {
     text.extend_from_slice(before)?;
     if is_rooted(url) {

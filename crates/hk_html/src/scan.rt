@@ -33,6 +33,7 @@ impl<'a> Scan<'a> {
     ghost use Rattle.hk_html.specs.Read.{sizes_of};
     ghost use Rattle.hk_html.specs.Scan.{Reads, ReadsPart, ReadsPiece, ReadsTag, ahead, part_ahead, piece_ahead, tag_ahead};
 
+    /// Nothing read yet.
     pub fn new(alloc: Global, body: &'a [u8]) -> Scan<'a>
         ensures body { result.body.now ≡ body.now }
         ensures links { result.links.items ≡ [] }
@@ -47,6 +48,7 @@ impl<'a> Scan<'a> {
         }
     }
 
+    /// Reads so many bytes in which no link stands.
     fn skip(&mut self, count: usize)
         requires { self.old.at + count ≤ length self.old.body.now }
         ensures { Reads self.old self.new count (λ root. take count (ahead self.old)) [] }
@@ -58,7 +60,8 @@ impl<'a> Scan<'a> {
     fn link(&mut self, before: usize, value: usize) -> Result<(), NoMemory>
         requires { self.old.at + before + value ≤ length self.old.body.now }
         ensures { OnOk result (Reads self.old self.new (before + value)
-            (λ root. take before (ahead self.old) ++ with_root root (take value (drop before (ahead self.old))))
+            (λ root. take before (ahead self.old)
+            ++ with_root root (take value (drop before (ahead self.old))))
             (take value (drop before (ahead self.old)) ∷ [])) }
     {
         let body = self.body;
@@ -75,7 +78,8 @@ impl<'a> Scan<'a> {
 
     /// Reads an attribute with a value, which comes next.
     fn valued(&mut self, sizes: Sizes) -> Result<(), NoMemory>
-        requires { self.old.at + sizes.name + sizes.between + sizes.value + sizes.close ≤ length self.old.body.now }
+        requires { self.old.at + sizes.name + sizes.between + sizes.value + sizes.close
+            ≤ length self.old.body.now }
         ensures { OnOk result ((part : Part) (rest : Bytes) → ahead self.old ≡ part_text part ++ rest
             → Attribute.Valued sizes ≡ sizes_of part → ReadsPart self.old self.new part) }
     {
