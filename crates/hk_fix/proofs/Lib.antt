@@ -1,9 +1,8 @@
 pub mod Empties
-pub mod Families
 pub mod Orders
 pub mod Reports
+pub mod SampleSteps
 pub mod Searching
 pub mod Steps
-pub mod Tasks
 pub mod Trails
 pub mod Waits

@@ -12,21 +12,21 @@ AllGroups P (fails e) = Unit {0}
 AllGroups P (asks ps f) = P ps × ((xs : List Page) → AllGroups P (f xs))
 AllGroups P (notes n t) = AllGroups P t
 
-abbrev pub Nothing_left : List ℕ → Type 0
-Nothing_left [] = Unit {0}
-Nothing_left (p ∷ ps) = ⊥
+abbrev pub NothingLeft : List ℕ → Type 0
+NothingLeft [] = Unit {0}
+NothingLeft (p ∷ ps) = ⊥
 
-abbrev pub Next_is : ℕ → List ℕ → (List ℕ → Type 0) → Type 0
-Next_is p [] P = ⊥
-Next_is p (q ∷ qs) P = (p ≡ q) × P qs
+abbrev pub NextIs : ℕ → List ℕ → (List ℕ → Type 0) → Type 0
+NextIs p [] P = ⊥
+NextIs p (q ∷ qs) P = (p ≡ q) × P qs
 
 -- a task saves pages for exactly these pairs in order, where it goes through
 abbrev pub Saves : {A : Type 0} → List ℕ → Task A → Type 0
-Saves ps (gives x) = Nothing_left ps
+Saves ps (gives x) = NothingLeft ps
 Saves ps (fails e) = Unit {0}
 Saves ps (asks qs f) = (xs : List Page) → Saves ps (f xs)
 Saves ps (notes (used n) t) = Saves ps t
-Saves ps (notes (saved p x) t) = Next_is p ps (λ qs. Saves qs t)
+Saves ps (notes (saved p x) t) = NextIs p ps (λ qs. Saves qs t)
 
 -- the numbers rise
 abbrev pub Ascending : List ℕ → Type 0

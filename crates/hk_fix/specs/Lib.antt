@@ -1,4 +1,5 @@
 pub mod Calls
+pub mod ChainLaws
 pub mod Chains
 pub mod Facts
 pub mod Fix
@@ -8,6 +9,9 @@ pub mod Pages
 pub mod Report
 pub mod Results
 pub mod Run
+pub mod Sample
+pub mod SampleLaws
 pub mod Site
 pub mod Task
+pub mod TaskLaws
 pub mod Walks

@@ -10,6 +10,8 @@ mod event;
 mod polled;
 mod reported;
 mod results;
+#[cfg(test)]
+mod sample;
 mod sends;
 #[cfg(test)]
 mod tests;

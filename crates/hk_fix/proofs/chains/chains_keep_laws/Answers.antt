@@ -1,4 +1,4 @@
-use Rattle.hk_fix.proofs.Families.{chains-run}
+use Rattle.hk_fix.specs.ChainLaws.{chains-run}
 use Rattle.hk_fix.proofs.chains.chains_keep_laws.Goals as goal
 
 pub returns : goal.returns

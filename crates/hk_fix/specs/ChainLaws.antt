@@ -7,22 +7,22 @@ use Rattle.hk_chain.specs.Layout.{Shape, pairs, item_of, final_of}
 use Rattle.hk_fix.specs.Pages.{Pages, Begins, lacking, all_pages}
 use Rattle.hk_fix.specs.Task.{Task, gives, fails, asks, notes, used, saved, Mark, done, run, answered}
 use Rattle.hk_fix.specs.Run.{Save, asks_of, saves_of, page_in, snapshot, AllAbove, Rising, IsRun}
-use Rattle.hk_fix.specs.Chains.{Nothing_left, Next_is, Saves, Ascending, AreChains}
-use Rattle.hk_fix.proofs.Tasks.{run_waits, run_some, run_once, run_still, run_same, run_grows, run_within}
+use Rattle.hk_fix.specs.Chains.{NothingLeft, NextIs, Saves, Ascending, AreChains}
+use Rattle.hk_fix.specs.TaskLaws.{run_waits, run_some, run_once, run_still, run_same, run_grows, run_within}
 
 -- the pairs of the saves of a log
 abbrev pub saved_pairs : List Mark → List ℕ
 saved_pairs log = map (λ s. s.pair) (saves_of log)
 
-nothing-left : (ps : List ℕ) → Nothing_left ps → [] ≡ ps
+nothing-left : (ps : List ℕ) → NothingLeft ps → [] ≡ ps
 nothing-left [] h = refl
 nothing-left (p ∷ ps) h = absurd h
 
-next-begins : (p : ℕ) (ps got : List ℕ) (P : List ℕ → Type 0) → ((qs : List ℕ) → P qs → Begins got qs) → Next_is p ps P → Begins (p ∷ got) ps
+next-begins : (p : ℕ) (ps got : List ℕ) (P : List ℕ → Type 0) → ((qs : List ℕ) → P qs → Begins got qs) → NextIs p ps P → Begins (p ∷ got) ps
 next-begins p [] got P f h = absurd h
 next-begins p (q ∷ qs) got P f h = let b : Begins got qs = f qs h.1 in (b.0, rw h.0 (ap (λ l. q ∷ l) b.1))
 
-next-same : (p : ℕ) (ps got : List ℕ) (P : List ℕ → Type 0) → ((qs : List ℕ) → P qs → got ≡ qs) → Next_is p ps P → p ∷ got ≡ ps
+next-same : (p : ℕ) (ps got : List ℕ) (P : List ℕ → Type 0) → ((qs : List ℕ) → P qs → got ≡ qs) → NextIs p ps P → p ∷ got ≡ ps
 next-same p [] got P f h = absurd h
 next-same p (q ∷ qs) got P f h = rw (h.0, f qs h.1) refl
 
