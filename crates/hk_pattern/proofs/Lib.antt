@@ -1,3 +1,4 @@
 pub mod Cuts
+pub mod Tails
 pub mod Walking
 pub mod Matching

@@ -5,7 +5,7 @@ ghost use Rattle.hk_pattern.specs.Glob.{pieces, Covers, read_glob};
 ghost use Rattle.hk_pattern.specs.Glob as spec;
 
 use crate::piece::{Piece, read_pieces};
-use crate::walk::covers;
+use crate::tail::covers_from_end;
 use hk_base::{NoMemory, Refusal, Text};
 use std::alloc::Global;
 use std::marker::Model;
@@ -37,7 +37,7 @@ impl Model for Glob {
 }
 
 impl Glob {
-    /// The glob of a text. `TooLong` exactly where it has over 1,024 bytes. Linear.
+    /// The glob of a text. `TooLong` exactly where it has over 1,024 bytes, NoMemory where there is no room for it. Linear.
     pub fn read(alloc: Global, text: &[u8]) -> Result<Glob, Refusal<GlobFault>>
         ensures { Answers (read_glob text.now) result }
     {
@@ -62,6 +62,6 @@ impl Glob {
         ensures test { result ≡ spec.covers (pieces self.now) path.now }
         ensures cut { IsTrue result ↔ Covers (pieces self.now) path.now }
     {
-        covers(&self.pieces, path)
+        covers_from_end(&self.pieces, path)
     }
 }

@@ -4,6 +4,7 @@
 mod glob;
 mod pattern;
 mod piece;
+mod tail;
 mod walk;
 
 pub use glob::{Glob, GlobFault};

@@ -19,9 +19,11 @@ pub enum Pattern {
     And(Items<Pattern>),
     /// One of them matches. With none it matches nothing.
     Or(Items<Pattern>),
+    /// It doesn't match.
     Not(Boxed<Pattern>),
     /// There is a version, and it is this.
     HasVersion(Text),
+    /// There is no version.
     HasNoVersion,
 }
 

@@ -18,6 +18,8 @@ fn covers_as_the_plain_test(rt: HostRuntime) -> Result<(), Fail> {
         ("\\*", "*", true),
         ("\\*", "a", false),
         ("a\\", "a\\", true),
+        ("ab*b", "ab", false),
+        ("ab*b", "abb", true),
         ("*a*/*b", "xaaa/yyb", true),
         ("*a*/*b", "xaaa/y/b", false),
         ("**a*b/**c*d", "a/axb/x/cc/cd", true),

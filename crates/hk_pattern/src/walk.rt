@@ -29,7 +29,8 @@ enum Walk<'a> {
     Differs,
 }
 
-/// Whether the path can be cut into parts that match the pieces in turn. At worst pieces times path; takes no memory.
+/// Whether the path can be cut into parts that match the pieces in turn. Linear for pieces that end with their one star,
+/// at worst pieces times path; takes no memory.
 pub(crate) fn covers(pieces: &[Piece], path: &[u8]) -> bool
     ensures { result ≡ spec.covers pieces.now path.now }
 {

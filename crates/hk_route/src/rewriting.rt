@@ -13,7 +13,8 @@ pub(crate) fn with_extension(alloc: Global, extension: &[u8], path: &[u8]) -> Re
         Some(at) => &path[..at],
         None => path,
     };
-    let mut bytes = Vec::from_slice(alloc, front)?;
+    let mut bytes = Vec::with_capacity(alloc, front.len() + 1 + extension.len())?;
+    bytes.extend_from_slice(front)?;
     bytes.push(b'.')?;
     bytes.extend_from_slice(extension)?;
     Ok(Text::from_vec(bytes))
@@ -44,8 +45,8 @@ fn mark_after(found: Option<usize>, at: usize, first: bool, byte: u8) -> Option<
     }
 }
 
-/// The path with each occurrence of `old` replaced by `new`, from left to right. One pass, with at most the length of
-/// `old` compared at a byte. An empty `old` occurs nowhere.
+/// The path with each occurrence of `old` replaced by `new`, from left to right. An empty `old` occurs nowhere. At each
+/// byte `old` is compared as far as it is equal: at worst path times `old`.
 pub(crate) fn replaced(alloc: Global, old: &[u8], new: &[u8], path: &[u8]) -> Result<Text, NoMemory>
     ensures { IfOk result (λ text. text ≡ spec.replaced old.now new.now path.now) }
 {

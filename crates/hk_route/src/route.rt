@@ -19,8 +19,10 @@ pub enum Route {
     /// The path with this extension in place of the last component's, which begins at its last dot that isn't its first
     /// byte; without one it is appended.
     Extension(Text),
+    /// This text, whatever the path.
     Constant(Text),
-    /// The path with each occurrence of the first text replaced by the second, from left to right.
+    /// The path with each occurrence of the first text replaced by the second, from left to right. An empty first text
+    /// occurs nowhere, so the path stays.
     Gsub(Text, Text),
     /// The route, where the pattern matches.
     When(Pattern, Boxed<Route>),
@@ -38,7 +40,8 @@ pub enum RouteFault {
 }
 
 /// The target of the identifier, or None exactly where the route doesn't apply. `BadTarget` exactly where what the whole
-/// route gives is no identifier's path. One pass over the path for each route that is taken.
+/// route gives is no identifier's path, NoMemory where there is no room for a path. One pass over the path so far for each
+/// route that is tried, beside what its patterns test; for `Gsub` at worst that path times the first text.
 pub fn target(
     alloc: Global,
     route: &Route,
@@ -88,8 +91,13 @@ fn run(
 fn run_all(alloc: Global, routes: &[Route], path: &[u8]) -> Result<Option<Text>, NoMemory>
     ensures { IfOk result (λ o. o ≡ composed (map routed routes.now) path.now) }
 {
-    let mut so_far = Text::from_slice(alloc, path)?;
-    for route in routes {
+    let [first, later @ ..] = routes else {
+        return Ok(Some(Text::from_slice(alloc, path)?));
+    };
+    let Some(mut so_far) = run(alloc, first, path, None)? else {
+        return Ok(None);
+    };
+    for route in later {
         match run(alloc, route, so_far.as_slice(), None)? {
             Some(next) => so_far = next,
             None => return Ok(None),

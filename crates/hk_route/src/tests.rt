@@ -69,15 +69,21 @@ fn replacements(rt: HostRuntime) -> Result<(), Fail> {
     Ok(())
 }
 
+/// The target of `posts/a.md` with a version by two routes in turn, of no bytes where they don't apply.
+fn composed(alloc: Global, first: Route, second: Route) -> Result<Text, Fail> {
+    let routes = pair(alloc, first, second)?;
+    target_of(alloc, &Route::Compose(routes), b"posts/a.md")
+}
+
 #[test]
 fn compositions(rt: HostRuntime) -> Result<(), Fail> {
-    let routes = pair(
-        rt.alloc(),
-        html(rt.alloc())?,
-        gsub(rt.alloc(), b"posts/", b"blog/")?,
-    )?;
-    let found = target_of(rt.alloc(), &Route::Compose(routes), b"posts/a.md")?;
-    assert_eq!(rt; found.as_slice(), b"blog/a.html".as_slice());
+    let alloc = rt.alloc();
+    let both = composed(alloc, html(alloc)?, gsub(alloc, b"posts/", b"blog/")?)?;
+    assert_eq!(rt; both.as_slice(), b"blog/a.html".as_slice());
+    let versionless = composed(alloc, without_version(alloc)?, html(alloc)?)?;
+    assert_eq!(rt; versionless.as_slice(), b"posts/a.html".as_slice());
+    let partly = composed(alloc, html(alloc)?, Route::First(Items::new(alloc)))?;
+    assert!(rt; partly.as_slice().is_empty());
     Ok(())
 }
 

@@ -6,4 +6,4 @@ use Rattle.hk_pattern.proofs.glob.Glob.covers.Goals as goal
 
 pub returns-clause-cut : goal.returns-clause-cut
 returns-clause-cut c =
-    covers-cut _ (pieces c.args.self.now) c.args.path.now (c.covers.ensures ∙ ap (λ ps. covers ps c.args.path.now) (c.deref.ensures.value ∙ c.self.invariant.1 ∙ ap pieces c.self.view_is))
+    covers-cut _ (pieces c.args.self.now) c.args.path.now (c.covers_from_end.ensures ∙ ap (λ ps. covers ps c.args.path.now) (c.deref.ensures.value ∙ c.self.invariant.1 ∙ ap pieces c.self.view_is))
