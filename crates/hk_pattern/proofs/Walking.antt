@@ -121,7 +121,7 @@ walked-kept ps p qs q (walk.Stars rs r) k fewer shorter w =
     ((here, same _ _ (λ e. stars-here ps p (sym here ∙ e)) (λ e. w.0.1 ∙ k.stars e)), (omega arith, omega arith))
 walked-kept ps p qs q walk.TooShort k fewer shorter w = unless _ _ k.stars w
 walked-kept ps p qs q walk.Crossed k fewer shorter w = unless _ _ k.star w
-walked-kept ps p qs q walk.Differs k fewer shorter w = sym k.same ∙ w
+walked-kept ps p qs q walk.Differs k fewer shorter w = (sym k.same ∙ w.0, omega (arith, w.1))
 
 -- where a `**` comes next
 pub walked-stars : (ps : List Piece) (p : Bytes) (qs : List Piece) (q : Bytes) → Keeps ps p (Stars ∷ qs) q → (covers (Stars ∷ qs) q ≡ covers ps p) × (covers (Stars ∷ qs) q ≡ covers (Stars ∷ ps) p)
@@ -165,4 +165,4 @@ keeps-next ps path n d k below within s = subst (λ m. Keeps ps path (drop m ps)
 pub uncovered : (ps : List Piece) (path : Bytes) (r : Walk) → Walked ps path r → (r ≡ walk.TooShort) ⊎ (r ≡ walk.Crossed) ⊎ (r ≡ walk.Differs) → covers ps path ≡ false
 uncovered ps path r w (inl e) = unless _ _ (stars-here ps path) (subst (Walked ps path) e w)
 uncovered ps path r w (inr (inl e)) = unless _ _ (star-here ps path) (subst (Walked ps path) e w)
-uncovered ps path r w (inr (inr e)) = subst (Walked ps path) e w
+uncovered ps path r w (inr (inr e)) = (subst (Walked ps path) e w).0

@@ -26,7 +26,7 @@ Headed ps path head.Covered = covers ps path ≡ true
 Headed ps path (head.Star qs rest) = Keeps ps path (Star ∷ qs.now) rest.now × ((length qs.now < length ps) × (length rest.now ≤ length path))
 Headed ps path (head.Stars qs rest) = Keeps ps path (Stars ∷ qs.now) rest.now × ((length qs.now < length ps) × (length rest.now ≤ length path))
 Headed ps path head.TooShort = covers (Stars ∷ ps) path ≡ false
-Headed ps path head.Differs = covers ps path ≡ false
+Headed ps path head.Differs = (covers ps path ≡ false) × (0 < length path)
 
 -- what the pieces up to a `**` or the end say
 abbrev pub Walked : List Piece → Bytes → Walk → Type 0
@@ -36,7 +36,7 @@ Walked ps path (walk.Stars qs rest) =
     × ((length qs.now < length ps) × (length rest.now ≤ length path))
 Walked ps path walk.TooShort = covers (Stars ∷ ps) path ≡ false
 Walked ps path walk.Crossed = covers (Star ∷ ps) path ≡ false
-Walked ps path walk.Differs = covers ps path ≡ false
+Walked ps path walk.Differs = (covers ps path ≡ false) × (0 < length path)
 
 -- what stands after the first slash
 abbrev pub past_slash : Bytes → Option Bytes

@@ -59,10 +59,7 @@ fn covers_after_stars(pieces: &[Piece], path: &[u8]) -> bool
                 Some(later) => path = later,
                 None => return false,
             },
-            Walk::Differs => match path {
-                [] => return false,
-                [_, later @ ..] => path = later,
-            },
+            Walk::Differs => path = &path[1..],
         }
     }
 }
@@ -109,11 +106,12 @@ fn find_stars_after_star<'a>(pieces: &'a [Piece], path: &'a [u8]) -> Walk<'a>
                 pieces = after;
                 path = rest;
             }
-            Head::Differs => match path {
-                [] => return Walk::TooShort,
-                [b'/', ..] => return Walk::Crossed,
-                [_, more @ ..] => path = more,
-            },
+            Head::Differs => {
+                if path[0] == b'/' {
+                    return Walk::Crossed;
+                }
+                path = &path[1..];
+            }
         }
     }
 }
