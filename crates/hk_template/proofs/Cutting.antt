@@ -1,9 +1,10 @@
 -- A text is cut into the tokens that spell it, and those alone.
-use Rattle.std.proofs.Common.{◌≡◌, ℕ, zero, suc, ◌+◌, ◌<◌, ◌≤◌, Bool, true, false, if◌then◌else◌, not, ◌==◌, nat_lt, ◌⊎◌, inl, inr, List, [], ◌∷◌, ◌++◌, length, take, drop, refl, ap, sym, subst, ◌∙◌, arith, codes, Option, Some, None, IfSome, option_map, append-nil, append_assoc, eqb-true, lt-ltb, le-ltb, length-append, one-add, add-one, flat_map}
+use Rattle.std.proofs.Common.{◌≡◌, ℕ, zero, suc, ◌+◌, ◌<◌, ◌≤◌, Bool, true, false, if◌then◌else◌, not, ◌==◌, nat_lt, ◌⊎◌, inl, inr, List, [], ◌∷◌, ◌++◌, length, take, drop, refl, ap, sym, subst, ◌∙◌, arith, codes, Option, Some, None, IfSome, option_map, append-nil, append_assoc, eqb-true, eq-eqb, lt-ltb, le-ltb, length-append, one-add, add-one, flat_map}
 use Rattle.std.specs.List.{list_all}
 use Rattle.hk_base.specs.Bytes.{Bytes}
 use Rattle.hk_template.specs.Token.{Word, Token, text, dollar, tag, tag_text, is_proper, is_run, is_text, is_token, token_text, begins_with_text, texts_apart}
 use Rattle.hk_template.specs.Cut.{run_length, tag_of, word_of, tag_before, after_dollar, text_before, token_at, Cuts, cut_on, cut_by, cut}
+use Rattle.hk_template.specs.Stop.{NoToken, IsCut, CutsAll}
 use Rattle.hk_template.proofs.Bools.{first_true, second_true, both_true, not_true, no_false, when_false}
 use Rattle.hk_template.proofs.Fronts.{take_front, drop_front}
 use Rattle.hk_template.proofs.Tags.{SpellsTag, tag_sound, tag_found, no_dollar, tag_no_dollar}
@@ -217,7 +218,6 @@ pub record Spelled (bytes : Bytes) (ts : List Token) : Type 0 where
   pub spelled : bytes ≡ flat_map token_text ts
   pub proper : list_all is_token ts ≡ true
   pub apart : texts_apart ts ≡ true
-  pub edge : ends_run bytes ≡ true → begins_with_text ts ≡ false
 
 apart_if : (t : Token) (ts : List Token) → (is_text t ≡ true → begins_with_text ts ≡ false) → texts_apart ts ≡ true → texts_apart (t ∷ ts) ≡ true
 apart_if (text bytes) ts h e = rw (h refl) e
@@ -230,31 +230,81 @@ edge_if (text (c ∷ cs)) rest h e = no_false (sym (not_true (c == 36) (first_tr
 edge_if dollar rest h e = refl
 edge_if (tag left word right) rest h e = refl
 
-spelled_more : (bytes : Bytes) (t : Token) (rest : Bytes) (ts : List Token) → Stands bytes t rest → Spelled rest ts → Spelled bytes (t ∷ ts)
-spelled_more bytes t rest ts s m = record {
-  spelled = s.spelled ∙ ap (λ x. token_text t ++ x) m.spelled;
-  proper = both_true (is_token t) _ s.proper m.proper;
-  apart = apart_if t ts (λ e. m.edge (s.edge e)) m.apart;
+no_some : {A : Type 0} (x : A) → Some x ≡ None → ⊥
+no_some x e = cc
+
+none_found : (bytes : Bytes) (t : Token) (rest : Bytes) → token_at bytes ≡ None → is_token t ≡ true → is_text t ≡ false → bytes ≡ token_text t ++ rest → ⊥
+none_found bytes t rest n h f e = no_some (t, rest) (sym (token_found t rest h (λ x. no_false (sym f ∙ x))) ∙ ap token_at (sym e) ∙ n)
+
+stuck_dollar : (c : ℕ) (cs : Bytes) → token_at (c ∷ cs) ≡ None → c ≡ 36
+unfolding token_at
+stuck_dollar c cs n = by_test (c == 36) refl n
+  where
+    by_test : (b : Bool) → c == 36 ≡ b → (if b then after_dollar cs else Some (text_before (c ∷ cs) (run_length (c ∷ cs)))) ≡ None → c ≡ 36
+    by_test true e n = eqb-true c 36 e
+    by_test false e n = absurd (no_some _ n)
+
+no_token : (c : ℕ) (cs : Bytes) → c ≡ 36 → token_at (c ∷ cs) ≡ None → NoToken (c ∷ cs)
+no_token c cs d n (text []) rest h e = no_false h
+no_token c cs d n (text (x ∷ xs)) rest h e =
+    let same : x ≡ 36 = cc in
+    no_false (sym (not_true (x == 36) (first_true (no_dollar x) (list_all no_dollar xs) h)) ∙ eq-eqb x 36 same)
+no_token c cs d n dollar rest h e = none_found (c ∷ cs) dollar rest n h refl e
+no_token c cs d n (tag left word right) rest h e = none_found (c ∷ cs) (tag left word right) rest n h refl e
+
+-- a cut as far as tokens reach, and its first token where the text is empty or begins with a dollar sign
+record Reaches (bytes : Bytes) (c : Cuts) : Type 0 where
+  pub stop : IsCut bytes c.0 c.1
+  pub edge : ends_run bytes ≡ true → begins_with_text c.0 ≡ false
+
+reaches_more : (bytes : Bytes) (t : Token) (rest : Bytes) (c : Cuts) → Stands bytes t rest → Reaches rest c → Reaches bytes (t ∷ c.0, c.1)
+reaches_more bytes t rest c s m = record {
+  stop = record {
+    rest = m.stop.rest;
+    spelled = s.spelled ∙ ap (λ x. token_text t ++ x) m.stop.spelled ∙ sym (append_assoc (token_text t) (flat_map token_text c.0) m.stop.rest);
+    proper = both_true (is_token t) _ s.proper m.stop.proper;
+    apart = apart_if t c.0 (λ e. m.edge (s.edge e)) m.stop.apart;
+    finished = m.stop.finished;
+    stuck = m.stop.stuck;
+  };
   edge = λ e. edge_if t rest s.proper (sym (ap ends_run s.spelled) ∙ e);
 }
 
-spelled_none : (n : ℕ) → Spelled [] (cut_by n []).0
-spelled_none zero = record { spelled = refl; proper = refl; apart = refl; edge = λ _. refl }
-spelled_none (suc n) = record { spelled = refl; proper = refl; apart = refl; edge = λ _. refl }
+reaches_end : Reaches [] ([], true)
+reaches_end = record { stop = record { rest = []; spelled = refl; proper = refl; apart = refl; finished = λ _. refl; stuck = λ e. no_false (sym e) }; edge = λ _. refl }
 
-spelled_on : (onward : Bytes → Cuts) → ((rest : Bytes) → (onward rest).1 ≡ true → Spelled rest (onward rest).0) → (bytes : Bytes) (r : Option (Token × Bytes)) → StandsIf bytes r → (cut_on onward r).1 ≡ true → Spelled bytes (cut_on onward r).0
-spelled_on onward later bytes (Some (t, rest)) s e = spelled_more bytes t rest (onward rest).0 s (later rest e)
-spelled_on onward later bytes None s e = no_false e
+reaches_stop : (c : ℕ) (cs : Bytes) → token_at (c ∷ cs) ≡ None → Reaches (c ∷ cs) ([], false)
+reaches_stop c cs n =
+    let d : c ≡ 36 = stuck_dollar c cs n in
+    record { stop = record { rest = c ∷ cs; spelled = refl; proper = refl; apart = refl; finished = λ e. no_false e; stuck = λ _. (d, no_token c cs d n) }; edge = λ _. refl }
 
-cut_sound_by : (n : ℕ) (bytes : Bytes) → (cut_by n bytes).1 ≡ true → Spelled bytes (cut_by n bytes).0
-cut_sound_by n [] h = spelled_none n
-cut_sound_by zero (c ∷ cs) h = no_false h
-cut_sound_by (suc n) (c ∷ cs) h = spelled_on (cut_by n) (cut_sound_by n) (c ∷ cs) (token_at (c ∷ cs)) (token_stands (c ∷ cs)) h
+reaches_on : (onward : Bytes → Cuts) (c : ℕ) (cs : Bytes) (r : Option (Token × Bytes)) → token_at (c ∷ cs) ≡ r → StandsIf (c ∷ cs) r → ((rest : Bytes) → length rest < length (c ∷ cs) → Reaches rest (onward rest)) → Reaches (c ∷ cs) (cut_on onward r)
+reaches_on onward c cs (Some (t, rest)) n s h = reaches_more (c ∷ cs) t rest (onward rest) s (h rest (rest_shorter (c ∷ cs) t rest s))
+reaches_on onward c cs None n s h = reaches_stop c cs n
+
+reaches_by : (n : ℕ) (bytes : Bytes) → length bytes ≤ n → Reaches bytes (cut_by n bytes)
+reaches_by zero [] h = reaches_end
+reaches_by (suc n) [] h = reaches_end
+reaches_by zero (c ∷ cs) h = absurd (omega arith)
+reaches_by (suc n) (c ∷ cs) h = reaches_on (cut_by n) c cs (token_at (c ∷ cs)) refl (token_stands (c ∷ cs)) (λ rest lt. reaches_by n rest (omega arith))
+
+-- a text is cut as far as tokens reach
+reaches : (bytes : Bytes) → Reaches bytes (cut bytes)
+unfolding cut
+reaches bytes = reaches_by (length bytes) bytes (omega arith)
+
+pub cuts_all : CutsAll
+cuts_all bytes = (reaches bytes).stop
 
 -- tokens that are the whole text spell it
 pub cut_spelled : (bytes : Bytes) → (cut bytes).1 ≡ true → Spelled bytes (cut bytes).0
-unfolding cut
-cut_spelled bytes h = cut_sound_by (length bytes) bytes h
+cut_spelled bytes h =
+    let r = reaches bytes in
+    record {
+      spelled = r.stop.spelled ∙ ap (λ x. flat_map token_text (cut bytes).0 ++ x) (r.stop.finished h) ∙ append-nil (flat_map token_text (cut bytes).0);
+      proper = r.stop.proper;
+      apart = r.stop.apart;
+    }
 
 first_edge : (ts : List Token) → list_all is_token ts ≡ true → begins_with_text ts ≡ false → ends_run (flat_map token_text ts) ≡ true
 first_edge [] h e = refl

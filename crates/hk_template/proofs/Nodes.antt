@@ -5,7 +5,7 @@ use Rattle.hk_template.specs.declared.node.Node.{Node as Code}
 use Rattle.hk_template.specs.declared.frame.Frame.{Frame as Form}
 use Rattle.hk_template.specs.Tree.{Nodes, no_nodes, node, joined, node_tokens, nodes_tokens, nodes_depth}
 use Rattle.hk_template.specs.View.{node_view, nodes_view}
-use Rattle.hk_template.specs.Views.{frame_view, forms_view}
+use Rattle.hk_template.specs.ParserViews.{frame_view, forms_view}
 
 pub joined-assoc : (a b c : Nodes) → joined (joined a b) c ≡ joined a (joined b c)
 joined-assoc no_nodes b c = refl

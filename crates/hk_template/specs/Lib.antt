@@ -2,11 +2,12 @@ pub mod Cut
 pub mod Fault
 pub mod Growing
 pub mod Key
+pub mod ParserViews
 pub mod Parsing
 pub mod Place
 pub mod Stepping
+pub mod Stop
 pub mod Template
 pub mod Token
 pub mod Tree
 pub mod View
-pub mod Views

@@ -3,7 +3,7 @@ ghost use Rattle.std.specs.Prelude.{◌≡◌, ◌≤◌, ◌<◌, ◌∷◌, []
 ghost use Rattle.hk_template.specs.Key as keys;
 ghost use Rattle.hk_template.specs.Cut as spec;
 ghost use Rattle.hk_template.specs.Token.{if_, for_, partial};
-ghost use Rattle.hk_template.specs.Views.{cut_view, token_view, word_view};
+ghost use Rattle.hk_template.specs.ParserViews.{cut_view, token_view, word_view};
 
 use crate::key::{is_bare_key, is_key, is_partial_path};
 use crate::token::{Token, Word};
@@ -48,8 +48,8 @@ fn after_dollar<'a>(bytes: &'a [u8]) -> Option<Cut<'a>>
 {
     match bytes.split_first() {
         None => None,
-        Some((first, rest)) => {
-            if *first == b'$' {
+        Some((second, rest)) => {
+            if *second == b'$' {
                 Some(Cut {
                     token: Token::Dollar,
                     rest,

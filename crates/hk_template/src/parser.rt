@@ -3,7 +3,7 @@ ghost use Rattle.std.specs.Prelude.{◌≡◌, ◌∷◌, [], OnOk, Ok, MatchOpt
 ghost use Rattle.hk_template.specs.Tree.{key_node, partial_node, if_else_node, for_sep_node};
 ghost use Rattle.hk_template.specs.View.{node_view, nodes_view};
 ghost use Rattle.hk_template.specs.Growing as spec;
-ghost use Rattle.hk_template.specs.Views.{forms_view, frame_view, state_view, word_view};
+ghost use Rattle.hk_template.specs.ParserViews.{forms_view, frame_view, state_view, word_view};
 ghost use Rattle.hk_template.specs.Stepping.{Steps};
 
 use crate::fault::TemplateFault;

@@ -3,7 +3,7 @@ ghost use Rattle.std.specs.Prelude.{◌≡◌, OnOk, [], false};
 ghost use Rattle.hk_template.specs.Growing as spec;
 ghost use Rattle.hk_template.specs.Parsing.{Parses};
 ghost use Rattle.hk_template.specs.Stepping.{Steps, Grows};
-ghost use Rattle.hk_template.specs.Views.{frame_view, state_view, token_view, waiting_view};
+ghost use Rattle.hk_template.specs.ParserViews.{frame_view, state_view, token_view, waiting_view};
 
 use crate::cut::token_at;
 use crate::fault::TemplateFault;

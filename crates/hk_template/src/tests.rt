@@ -86,6 +86,17 @@ fn at_most_64_forms_are_open(rt: HostRuntime) -> Result<(), Fail> {
     Ok(())
 }
 
+#[test]
+fn long_texts_are_read(rt: HostRuntime) -> Result<(), Fail> {
+    let alloc = rt.alloc();
+    let table: [(usize, &[u8]); 2] = [(1_048_576, b"a"), (100_000, b"$k$")];
+    for (count, text) in table {
+        let long = repeated(alloc, count, text)?;
+        assert_eq!(rt; printed(alloc, &long)?.as_slice(), long.as_slice());
+    }
+    Ok(())
+}
+
 fn shared<T: Send + Sync>(_value: &T) {}
 
 #[test]

@@ -1,3 +1,5 @@
+-- The laws of the grammar hold.
+use Rattle.hk_template.proofs.Cutting
 use Rattle.hk_template.proofs.Grammar
 use Rattle.hk_template.proofs.laws.grammar_laws.Goals as goal
 
@@ -12,3 +14,6 @@ returns-clause-reads_again c = Grammar.reads_again
 
 pub returns-clause-as_function : goal.returns-clause-as_function
 returns-clause-as_function c = Grammar.as_function
+
+pub returns-clause-cuts_all : goal.returns-clause-cuts_all
+returns-clause-cuts_all c = Cutting.cuts_all

@@ -4,8 +4,8 @@ use Rattle.hk_template.specs.declared.fault.TemplateFault.{TemplateFault}
 use Rattle.hk_template.specs.Token.{Token, token_text}
 use Rattle.hk_template.specs.Tree.{Nodes}
 use Rattle.hk_template.specs.Growing.{State, Waiting, read_tree, waits, token_step}
-use Rattle.hk_template.specs.Views.{waiting_view}
-use Rattle.hk_template.specs.Views.{token_view}
+use Rattle.hk_template.specs.ParserViews.{waiting_view}
+use Rattle.hk_template.specs.ParserViews.{token_view}
 use Rattle.hk_template.specs.Stepping.{Grows}
 use Rattle.hk_template.proofs.Rests.{grown_rest, rest_whole, rest_next, rest_fault, rest_length, rest_some, rest_stuck, rest_end, refused}
 use Rattle.hk_template.proofs.reader.grow.Goals as goal

@@ -1,6 +1,6 @@
 use Rattle.std.proofs.Common.{◌≡◌, ◌≤◌, ◌-◌, length}
 use Rattle.hk_template.specs.Growing.{read_tree}
-use Rattle.hk_template.specs.Views.{waiting_view}
+use Rattle.hk_template.specs.ParserViews.{waiting_view}
 use Rattle.hk_template.proofs.Rests.{grown_rest}
 use Rattle.hk_template.proofs.reader.grow.Given as goal
 
