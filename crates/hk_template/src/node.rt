@@ -2,7 +2,7 @@
 use hk_base::Text;
 
 /// A node of a template. Nothing in it is borrowed from the text that it was read from.
-#[derive(Drop)]
+#[derive(Debug, Drop)]
 #[cycle(tree)]
 pub enum Node {
     /// Bytes that stand for themselves.
@@ -28,7 +28,7 @@ pub enum Node {
 }
 
 /// A template: a list of nodes.
-#[derive(Drop)]
+#[derive(Debug, Drop)]
 pub struct Template {
     pub nodes: Vec<Node>,
 }
