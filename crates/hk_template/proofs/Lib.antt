@@ -1,3 +1,4 @@
+-- The proofs about templates.
 pub mod Nodes
 pub mod Growth
 pub mod Shallow

@@ -1,3 +1,4 @@
+-- The definitions of templates.
 pub mod Cut
 pub mod Fault
 pub mod Growing

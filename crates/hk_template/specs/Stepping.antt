@@ -1,10 +1,15 @@
 -- What the parser's steps answer.
-use Rattle.std.specs.Prelude.{◌≡◌, Result, Ok, Err}
+use Rattle.std.specs.Prelude.{ℕ, ◌≡◌, true, false, nat_lt, length, Result, Ok, Err}
+use Rattle.hk_base.specs.Bytes.{Bytes}
 use Rattle.hk_base.specs.declared.refusal.Refusal.{Refusal}
 use Rattle.hk_base.specs.declared.refusal.Refusal.TheVariants.{Fault, NoMemory}
 use Rattle.hk_template.specs.declared.fault.TemplateFault.{TemplateFault}
+use Rattle.hk_template.specs.declared.fault.TemplateFault.TheVariants.{TooDeep}
+use Rattle.hk_template.specs.declared.frame.Head.{Head as Begun}
 use Rattle.hk_template.specs.declared.node.Template.{Template}
-use Rattle.hk_template.specs.Tree.{Nodes}
+use Rattle.hk_template.specs.Tree.{Nodes, no_nodes}
+use Rattle.hk_template.specs.Growing.{State}
+use Rattle.hk_template.specs.ParserViews.{head_view}
 use Rattle.hk_template.specs.View.{tree_of}
 
 -- the wanted state is the new one, or the wanted fault is answered
@@ -18,3 +23,9 @@ abbrev pub Grows : Result Nodes TemplateFault → Result Template (Refusal Templ
 Grows wanted (Ok t) = wanted ≡ Ok (tree_of t)
 Grows wanted (Err (Fault fault)) = wanted ≡ Err fault
 Grows wanted (Err NoMemory) = Unit {0}
+
+-- where fewer than 64 forms are open, the head of one more form is answered, and the list inside it has no nodes
+abbrev pub Begins : ℕ → Bytes → State → State → Result Begun (Refusal TemplateFault) → Type 0
+Begins p k old new (Ok begun) = (nat_lt (length old.forms) 64 ≡ true) × (head_view begun ≡ record { place = p; key = k; outer = old.nodes }) × (new ≡ record { nodes = no_nodes; forms = old.forms })
+Begins p k old new (Err (Fault fault)) = (nat_lt (length old.forms) 64 ≡ false) × (fault ≡ TooDeep p)
+Begins p k old new (Err NoMemory) = Unit {0}

@@ -4,7 +4,7 @@ ghost use Rattle.hk_template.specs.Tree.{key_node, partial_node, if_else_node, f
 ghost use Rattle.hk_template.specs.View.{node_view, nodes_view};
 ghost use Rattle.hk_template.specs.Growing as spec;
 ghost use Rattle.hk_template.specs.ParserViews.{forms_view, frame_view, state_view, word_view};
-ghost use Rattle.hk_template.specs.Stepping.{Steps};
+ghost use Rattle.hk_template.specs.Stepping.{Begins, Steps};
 
 use crate::fault::TemplateFault;
 use crate::frame::{Frame, Head, Parser, push_node};
@@ -80,12 +80,8 @@ impl Parser {
     ) -> Result<(), Refusal<TemplateFault>>
         ensures { Steps (spec.opening place spec.if_frame key.now (state_view self.old)) (state_view self.new) result }
     {
-        if self.forms.len() >= MOST_FORMS {
-            return Err(Refusal::Fault(TemplateFault::TooDeep { place }));
-        }
-        let key = Text::from_slice(alloc, key)?;
-        let outer = mem::replace(&mut self.nodes, Vec::new(alloc));
-        self.push_form(Frame::If(Head { place, key, outer }))?;
+        let head = self.begin(alloc, key, place)?;
+        self.push_form(Frame::If(head))?;
         Ok(())
     }
 
@@ -97,13 +93,26 @@ impl Parser {
     ) -> Result<(), Refusal<TemplateFault>>
         ensures { Steps (spec.opening place spec.for_frame key.now (state_view self.old)) (state_view self.new) result }
     {
+        let head = self.begin(alloc, key, place)?;
+        self.push_form(Frame::For(head))?;
+        Ok(())
+    }
+
+    /// The head of one more form, which has no nodes yet.
+    fn begin(
+        &mut self,
+        alloc: Global,
+        key: &[u8],
+        place: u64,
+    ) -> Result<Head, Refusal<TemplateFault>>
+        ensures { Begins place key.now (state_view self.old) (state_view self.new) result }
+    {
         if self.forms.len() >= MOST_FORMS {
             return Err(Refusal::Fault(TemplateFault::TooDeep { place }));
         }
         let key = Text::from_slice(alloc, key)?;
         let outer = mem::replace(&mut self.nodes, Vec::new(alloc));
-        self.push_form(Frame::For(Head { place, key, outer }))?;
-        Ok(())
+        Ok(Head { place, key, outer })
     }
 
     fn turn_to_else(&mut self, alloc: Global, place: u64) -> Result<(), Refusal<TemplateFault>>

@@ -1,3 +1,4 @@
+-- A text without a dollar sign is one run.
 use Rattle.hk_template.proofs.Ends.{run_none}
 use Rattle.hk_template.proofs.cut.run_length.Goals as goal
 

@@ -1,3 +1,4 @@
+-- The last byte tells whether a key ends in a dash.
 use Rattle.std.proofs.Common.{sym}
 use Rattle.hk_template.proofs.Fronts.{ends_by}
 use Rattle.hk_template.proofs.key.ends_with_dash.Goals as goal

@@ -1,3 +1,4 @@
+-- The nodes so far are printed.
 use Rattle.std.proofs.Common.{◌≡◌, ◌++◌, drop}
 use Rattle.hk_template.specs.View.{nodes_view}
 use Rattle.hk_template.specs.Template.{tree_text}

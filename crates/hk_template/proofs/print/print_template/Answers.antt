@@ -1,3 +1,4 @@
+-- What is printed has its tree alone.
 use Rattle.std.proofs.Common.{◌≡◌, rules}
 use Rattle.hk_template.specs.Template.{tree_text}
 use Rattle.hk_template.specs.View.{tree_of}

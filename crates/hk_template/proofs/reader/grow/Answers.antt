@@ -1,3 +1,4 @@
+-- Each token leads on to the tree of the rest.
 use Rattle.std.proofs.Common.{◌≡◌, ℕ, ◌+◌, ◌-◌, length, sym, ◌∙◌, subst, arith, false, [], Result}
 use Rattle.std.proofs.lemmas.Result.{err_from_is_err_and}
 use Rattle.hk_template.specs.declared.fault.TemplateFault.{TemplateFault}

@@ -1,3 +1,4 @@
+-- What was read, and what is left, make the whole tree.
 use Rattle.std.proofs.Common.{◌≡◌, ◌≤◌, ◌-◌, length}
 use Rattle.hk_template.specs.Growing.{read_tree}
 use Rattle.hk_template.specs.ParserViews.{waiting_view}

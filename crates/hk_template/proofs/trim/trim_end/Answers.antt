@@ -1,3 +1,4 @@
+-- A blank at the end goes, and any other byte stays.
 use Rattle.std.proofs.Common.{sym, ap, ◌∙◌}
 use Rattle.hk_template.specs.Tree.{trim_end}
 use Rattle.hk_template.proofs.Trims.{end_blank, end_kept}

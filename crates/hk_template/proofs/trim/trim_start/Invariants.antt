@@ -1,3 +1,4 @@
+-- What is left trims to the same.
 use Rattle.std.proofs.Common.{◌≡◌, length}
 use Rattle.hk_template.specs.Tree.{trim_start}
 use Rattle.hk_template.proofs.trim.trim_start.Given as goal
