@@ -1,5 +1,5 @@
 // Headers of files, and companion files.
-ghost use Rattle.std.specs.Prelude.{◌≡◌, ◌+◌, ◌-◌, ◌≤◌, length};
+ghost use Rattle.std.specs.Prelude.{◌≡◌, ◌+◌, ◌-◌, ◌≤◌, length, IfOk};
 ghost use Rattle.hk_base.specs.Answers.{Answers};
 ghost use Rattle.hk_meta.specs.Header as spec;
 ghost use Rattle.hk_meta.specs.Lines.{all_lines};
@@ -20,7 +20,8 @@ use std::alloc::Global;
 /// line of the header that is neither blank, a comment, a member of a list, nor a key. Linear: each byte of the header is
 /// looked at a fixed number of times.
 pub fn split(alloc: Global, file: &[u8]) -> Result<Split, Refusal<HeaderFault>>
-    ensures { Answers (spec.split file.now) result }
+    ensures value { Answers (spec.split file.now) result }
+    ensures inside { IfOk result (λ s. s.body_start ≤ length file.now) }
 {
     if !file.is_empty() {
         let first = cut_line(file);
@@ -75,7 +76,8 @@ fn is_all_blank(text: &[u8]) -> bool
 /// Reads on behind the first fence of a file.
 fn read_header(alloc: Global, file: &[u8], lines: &[u8]) -> Result<Split, Refusal<HeaderFault>>
     requires { 1 + length lines.now ≤ length file.now }
-    ensures { Answers (spec.after_fence (length file.now - length lines.now) (spec.before_fence (all_lines lines.now))) result }
+    ensures value { Answers (spec.after_fence (length file.now - length lines.now) (spec.before_fence (all_lines lines.now))) result }
+    ensures inside { IfOk result (λ s. s.body_start ≤ length file.now) }
 {
     let mut reader = Reader::new(alloc);
     let mut refused = None;
@@ -100,7 +102,8 @@ fn conclude(
     refused: Option<u64>,
     body_start: usize,
 ) -> Result<Split, Refusal<HeaderFault>>
-    ensures { Answers (spec.split_by body_start (finished refused reader)) result }
+    ensures value { Answers (spec.split_by body_start (finished refused reader)) result }
+    ensures start { IfOk result (λ s. s.body_start ≡ body_start) }
 {
     match refused {
         Some(line) => Err(Refusal::Fault(HeaderFault::BadLine { line })),
