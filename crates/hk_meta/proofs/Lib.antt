@@ -3,3 +3,4 @@ pub mod Members
 pub mod FirstLine
 pub mod Reading
 pub mod Printing
+pub mod KeysDiffer

@@ -1,6 +1,6 @@
 -- Metadata as a list of keys, each with one value.
-use Rattle.std.specs.Prelude.{Bool, nat_eq, if◌then◌else◌, List, [], ◌∷◌, ◌++◌, Option, Some, None, fold}
-use Rattle.std.specs.Option.{is_some}
+use Rattle.std.specs.Prelude.{Bool, true, ◌&&◌, nat_eq, if◌then◌else◌, List, [], ◌∷◌, ◌++◌, Option, Some, None, fold}
+use Rattle.std.specs.Option.{is_some, is_none}
 use Rattle.std.specs.Cmp.Lexicographic.{pointwise}
 use Rattle.hk_base.specs.Bytes.{Bytes}
 
@@ -19,6 +19,11 @@ is_key key other = pointwise nat_eq key other
 abbrev pub value_of : Bytes → Pairs → Option Bytes
 value_of key [] = None
 value_of key (p ∷ ps) = if is_key key p.0 then Some p.1 else value_of key ps
+
+-- no key stands twice
+abbrev pub keys_differ : Pairs → Bool
+keys_differ [] = true
+keys_differ (p ∷ ps) = is_none (value_of p.0 ps) && keys_differ ps
 
 -- a key that is there keeps its place and takes the value, and a new one goes last
 abbrev pub put : Bytes → Bytes → Pairs → Pairs

@@ -1,5 +1,5 @@
 // Metadata: keys in order, each with one value.
-ghost use Rattle.std.specs.Prelude.{◌≡◌, [], IfOk, slice_get, option_map};
+ghost use Rattle.std.specs.Prelude.{◌≡◌, [], true, IfOk, slice_get, option_map};
 ghost use Rattle.hk_meta.specs.Metadata as spec;
 
 use hk_base::NoMemory;
@@ -7,19 +7,21 @@ use indexmap::IndexMap;
 use std::alloc::Global;
 use std::marker::Model;
 
-/// Keys in order, each with one value.
+/// Keys in order, each with one value; no key stands twice.
 #[derive(Drop)]
 pub struct Metadata {
     pairs: IndexMap<Vec<u8>, Vec<u8>>,
 }
 
 impl Model for Metadata {
-    ghost use Rattle.std.specs.Prelude.{map};
-    ghost use Rattle.hk_meta.specs.Metadata.{Pairs};
+    ghost use Rattle.std.specs.Prelude.{◌≡◌, true, map};
+    ghost use Rattle.hk_meta.specs.Metadata.{Pairs, keys_differ};
 
     ghost Value = { Pairs };
 
     ghost view = { λ m. map (λ e. (e.0.items, e.1.items)) m.pairs.entries };
+
+    ghost invariant = { λ m. keys_differ (map (λ e. (e.0.items, e.1.items)) m.pairs.entries) ≡ true };
 }
 
 impl Metadata {
@@ -35,7 +37,8 @@ impl Metadata {
     /// The value of a key; `None` exactly where the key isn't there. Constant on average, and linear in the key;
     /// takes no memory.
     pub fn get(&self, key: &[u8]) -> Option<&[u8]>
-        ensures { option_map (λ v. v.now) result ≡ spec.value_of key.now self.now }
+        ensures value { option_map (λ v. v.now) result ≡ spec.value_of key.now self.now }
+        ensures differ { spec.keys_differ self.now ≡ true }
     {
         match self.pairs.get(key) {
             Some(value) => Some(value.as_slice()),
@@ -46,7 +49,8 @@ impl Metadata {
     /// The key and the value at a place, counted from 0; `None` exactly where there are no more. Constant; takes no
     /// memory.
     pub fn entry(&self, place: usize) -> Option<(&[u8], &[u8])>
-        ensures { option_map (λ p. (p.0.now, p.1.now)) result ≡ slice_get self.now place }
+        ensures value { option_map (λ p. (p.0.now, p.1.now)) result ≡ slice_get self.now place }
+        ensures differ { spec.keys_differ self.now ≡ true }
     {
         match self.pairs.get_index(place) {
             Some((key, value)) => Some((key.as_slice(), value.as_slice())),
