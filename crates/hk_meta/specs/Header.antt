@@ -66,11 +66,12 @@ accepted (Some number) pairs = Err number
 abbrev pub read_lines : ℕ → List Line → Result Pairs ℕ
 read_lines number lines = accepted (first_refused number false lines) (fold assign [] (assigned lines))
 
--- the texts of the lines before the first fence, and how many bytes these and the fence have; nothing without a fence
+-- one more line before those that stand before a fence
 abbrev pub with_line : Bytes → Option (List Bytes × ℕ) → Option (List Bytes × ℕ)
 with_line line None = None
 with_line line (Some (texts, size)) = Some (line_text line ∷ texts, length line + size)
 
+-- the texts of the lines before the first fence, and how many bytes these and the fence have; nothing without a fence
 abbrev pub before_fence : List Bytes → Option (List Bytes × ℕ)
 before_fence [] = None
 before_fence (l ∷ ls) = if is_fence (line_text l) then Some ([], length l) else with_line l (before_fence ls)

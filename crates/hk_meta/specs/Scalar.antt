@@ -14,11 +14,12 @@ skip_blanks text = drop (prefix_len is_blank text) text
 abbrev pub trim_end : Bytes → Bytes
 trim_end text = take (length text - suffix_len is_blank text) text
 
--- blanks, then the end or a comment
+-- the end or a comment
 abbrev pub begins_comment : Bytes → Bool
 begins_comment [] = true
 begins_comment (c ∷ cs) = c == 35
 
+-- blanks, then the end or a comment
 abbrev pub is_ignored : Bytes → Bool
 is_ignored text = begins_comment (skip_blanks text)
 
@@ -50,10 +51,11 @@ single_from value false [] = None
 single_from value true (c ∷ cs) = if c == 39 then single_from (value ++ (c ∷ [])) false cs else Some (value, c ∷ cs)
 single_from value false (c ∷ cs) = if c == 39 then single_from value true cs else single_from (value ++ (c ∷ [])) false cs
 
--- a text that begins with a quote
+-- a double quote or a single one
 abbrev pub is_quote : ℕ → Bool
 is_quote c = (c == 34) || (c == 39)
 
+-- a text after this quote: its value and what follows the closing quote
 unfoldable pub quoted : ℕ → Bytes → Option (Bytes × Bytes)
 quoted quote text = if quote == 34 then double_from [] false text else single_from [] false text
 

@@ -8,11 +8,12 @@ pub struct Split {
     pub body_start: usize,
 }
 
-/// Why a header is none. Lines are numbered from 1.
+/// Why a text has no header that can be read, or is no companion file. The file's first line is line 1.
 #[derive(Clone, Copy, Debug, PartialEq, Eq, Drop)]
 pub enum HeaderFault {
     /// The first line is a fence and no later line is.
     Unclosed { line: u64 },
-    /// The first header line that is no header line.
+    /// The first line of the header or of the companion file that can't stand there: it is neither blank, a comment,
+    /// a member of a list that is open, nor a key with its value.
     BadLine { line: u64 },
 }

@@ -14,7 +14,9 @@ use std::alloc::Global;
 
 /// Prints a moment by a pattern: `%Y` in four digits, `%m`, `%d`, `%H`, `%M` and `%S` in two, `%e` as the day in two
 /// places with a space in front, `%B` and `%A` as the English names of the month and the weekday, `%b` and `%a` as their
-/// first three letters, `%%` as a percent sign, and every other byte as it is. `NoMemory` only for want of memory. Linear.
+/// first three letters, `%%` as a percent sign, and every other byte as it is. The pattern has to be one that `pattern_ok`
+/// accepts, and the moment a day of the calendar in the years 0 to 9999 and a time of a clock, as each that `date_of`
+/// gives is. `NoMemory` only for want of memory. Linear.
 pub fn format_date(alloc: Global, date: &Moment, pattern: &[u8]) -> Result<Text, NoMemory>
     requires pattern { pattern_ok pattern.now ≡ true }
     requires date { IsMoment date.now }

@@ -1,4 +1,4 @@
-// Date patterns: which there are, and what they print.
+// Which texts are date patterns.
 ghost use Rattle.std.specs.Prelude.{◌≡◌, false, nat_lt};
 ghost use Rattle.std.specs.List.{list_all};
 ghost use Rattle.hk_meta.specs.DatePattern as spec;

@@ -17,8 +17,8 @@ use std::alloc::Global;
 /// then blanks only. The body starts behind the second fence; a file whose first line is no fence is all body.
 ///
 /// `Unclosed` with line 1 exactly where the first line is a fence and no later line is, and else `BadLine` with the first
-/// line of the header that is neither blank, a comment, a member of a list, nor a key. Linear: each byte of the header is
-/// looked at a fixed number of times.
+/// line of the header that is neither blank, a comment, a member of an open list, nor a key. `NoMemory` only for want of
+/// memory. Linear on average, since keys are hashed: each byte of the header is looked at a fixed number of times.
 pub fn split(alloc: Global, file: &[u8]) -> Result<Split, Refusal<HeaderFault>>
     ensures value { Answers (spec.split file.now) result }
     ensures inside { IfOk result (λ s. s.body_start ≤ length file.now) }
@@ -37,7 +37,8 @@ pub fn split(alloc: Global, file: &[u8]) -> Result<Split, Refusal<HeaderFault>>
 
 /// Reads a companion file: each of its lines is a header line, and a fence says nothing.
 ///
-/// `BadLine` with the first line that is neither blank, a comment, a member of a list, a key nor a fence. Linear.
+/// `BadLine` with the first line that is neither blank, a comment, a member of an open list, a key nor a fence. `NoMemory`
+/// only for want of memory. Linear on average, since keys are hashed.
 pub fn read_companion(alloc: Global, file: &[u8]) -> Result<Metadata, Refusal<HeaderFault>>
     ensures { Answers (spec.read_companion file.now) result }
 {

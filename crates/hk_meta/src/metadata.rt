@@ -78,7 +78,7 @@ impl Metadata {
 }
 
 /// The keys and values of a header, in their places, and after them those of its companion whose keys the header
-/// lacks, in their order. `NoMemory` only for want of memory. Linear.
+/// lacks, in their order. `NoMemory` only for want of memory. Linear on average, since keys are hashed.
 pub fn merge(_alloc: Global, header: Metadata, companion: Metadata) -> Result<Metadata, NoMemory>
     ensures { IfOk result (λ merged. merged ≡ spec.merge header companion) }
 {

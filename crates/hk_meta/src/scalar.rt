@@ -173,7 +173,7 @@ fn before_comment(text: &[u8]) -> &[u8]
     text
 }
 
-/// The text from the first byte that ends a plain member of a bracketed list.
+/// How many bytes stand before the first that ends a plain member of a bracketed list.
 fn member_len(text: &[u8]) -> usize
     ensures value { result ≡ spec.member_len text.now }
     ensures bound { result ≤ length text.now }

@@ -63,11 +63,12 @@ fn refused_headers(rt: HostRuntime) {
     }
 }
 
-/// The value of the key `k`, where the text is a companion file.
+/// Whether a companion file gives the key `k` this value, and is refused where there is none.
 fn is_value(alloc: Global, text: &[u8], wanted: Option<&[u8]>) -> bool {
     match read_companion(alloc, text) {
-        Ok(meta) => meta.get(b"k") == wanted,
-        Err(_) => wanted.is_none(),
+        Ok(meta) => wanted.is_some() && meta.get(b"k") == wanted,
+        Err(Refusal::Fault(_)) => wanted.is_none(),
+        Err(Refusal::NoMemory) => false,
     }
 }
 
@@ -112,6 +113,23 @@ fn one_long_line(rt: HostRuntime) -> Result<(), Fail> {
     let meta = read_companion(rt.alloc(), &file)?;
     assert_eq!(rt; meta.entry(1), None);
     assert!(rt; meta.entry(0).is_some());
+    Ok(())
+}
+
+#[test]
+fn many_members(rt: HostRuntime) -> Result<(), Fail> {
+    let mut file = Vec::from_slice(rt.alloc(), b"k:\n")?;
+    let mut line = Vec::from_slice(rt.alloc(), b"k: [")?;
+    for _member in 0..100_000 {
+        file.extend_from_slice(b"- x\n")?;
+        line.push(b',')?;
+    }
+    let meta = read_companion(rt.alloc(), &file)?;
+    let value = meta.get(b"k").ok_or("no list")?;
+    assert_eq!(rt; value.len(), 299_998);
+    assert!(rt; is_value(rt.alloc(), &line, None));
+    line.push(b']')?;
+    assert!(rt; is_value(rt.alloc(), &line, Some(b"")));
     Ok(())
 }
 
