@@ -1,8 +1,11 @@
 pub mod Empties
+pub mod KnownBy
+pub mod Leasts
 pub mod Orders
 pub mod Reports
 pub mod SampleSteps
 pub mod Searching
 pub mod Steps
+pub mod StillWaits
 pub mod Trails
 pub mod Waits

@@ -4,12 +4,12 @@ use Rattle.hk_chain.specs.declared.page.Page.{Page}
 use Rattle.hk_chain.specs.declared.fault.Fault.{Fault}
 use Rattle.hk_chain.specs.Facts.{FactsView}
 use Rattle.hk_chain.specs.Kept.{KeptView, at_place}
-use Rattle.hk_chain.specs.Layout.{Shape, pairs, item_of, final_of}
+use Rattle.hk_chain.specs.Layout.{Shape, IsShape, pairs, item_of, final_of}
 use Rattle.hk_fix.specs.declared.event.Event.{Event}
 use Rattle.hk_fix.specs.declared.event.Event.TheVariants.{Begin, Saved, Done, Failed}
 use Rattle.hk_fix.specs.Pages.{Pages}
 use Rattle.hk_fix.specs.Task.{Mark, End, done, fault, waits, Run}
-use Rattle.hk_fix.specs.Run.{snapshot, finished_page, page_of}
+use Rattle.hk_fix.specs.Run.{snapshot, finished_page, page_of, IsRun}
 use Rattle.hk_fix.specs.Facts.{facts_of, whole_log}
 
 -- pages and facts that are known from the start
@@ -24,6 +24,12 @@ seeded seeds i = is_some (seeds.facts i)
 pub record IsSeeds (lay : Shape) (seeds : Seeds) : Type 0 where
   pub each : (p : ℕ) → p < pairs lay → is_some (seeds.pages p) ≡ seeded seeds (item_of lay p)
   pub none : (p : ℕ) → pairs lay ≤ p → seeds.pages p ≡ None
+
+-- a layout, runs that keep the laws, and seeds
+pub record IsSetting (lay : Shape) (run : ℕ → Pages → Run Page) (seeds : Seeds) : Type 0 where
+  pub shape : IsShape lay
+  pub laws : IsRun lay run
+  pub sown : IsSeeds lay seeds
 
 abbrev pub seeds_of : KeptView → Seeds
 seeds_of kept = record { pages = at_place kept.pages; facts = at_place kept.facts }
@@ -96,6 +102,13 @@ stands e (x ∷ h) = same_event e x || stands e h
 
 abbrev pub ended : ℕ → List Event → Bool
 ended i h = stands (Done i) h || stands (Failed i) h
+
+-- the events that save a pair's page on the way, and an item's finished page
+abbrev pub has_saved : List Event → ℕ → Bool
+has_saved h p = stands (Saved p) h
+
+abbrev pub has_finished : List Event → ℕ → Bool
+has_finished h i = stands (Done i) h
 
 abbrev pub is_done : End Page → Bool
 is_done (done x) = true

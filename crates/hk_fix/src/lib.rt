@@ -13,14 +13,16 @@ mod results;
 #[cfg(test)]
 mod sample;
 mod sends;
+mod still;
 #[cfg(test)]
 mod tests;
 
 pub use chains::chains_keep_laws;
 pub use compiler::{Compiler, Maker, laws, made};
-pub use confluence::{every_order, kept_are_seeds};
+pub use confluence::{every_order, kept_are_seeds, known_by_events, least_fixpoint};
 pub use ending::report;
 pub use event::Event;
 pub use polled::Polled;
 pub use reported::Report;
 pub use results::{Outcome, Results};
+pub use still::still_waiting;
