@@ -1,6 +1,6 @@
 // Pages and facts that are known before a run begins.
 ghost use Rattle.std.specs.Prelude.{◌≡◌, IfOk, None, replicate};
-ghost use Rattle.hk_chain.specs.Kept.{none_kept};
+ghost use Rattle.hk_chain.specs.Kept.{IsKept, none_kept};
 
 use crate::facts::Facts;
 use crate::layout::Layout;
@@ -25,9 +25,10 @@ impl Model for Kept {
 }
 
 impl Kept {
-    /// Nothing is known. `NoMemory` only for want of memory. Linear in the layout.
+    /// Nothing is known; so no item is kept. `NoMemory` only for want of memory. Linear in the layout.
     pub fn none(alloc: Global, layout: &Layout) -> Result<Kept, NoMemory>
-        ensures { IfOk result (λ k. k ≡ none_kept layout.now) }
+        ensures value { IfOk result (λ k. k ≡ none_kept layout.now) }
+        ensures kept { IsKept layout.now (none_kept layout.now) }
     {
         Ok(Kept {
             pages: no_pages(alloc, layout.pairs())?,
