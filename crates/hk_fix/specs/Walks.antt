@@ -1,4 +1,4 @@
--- Walks from item to item, and what is found on them.
+-- The vocabulary of the private walk in cycles.rt: walks from item to item, and what is found on them.
 use Rattle.std.specs.Prelude.{◌≡◌, ◌≢◌, ℕ, ◌+◌, ◌<◌, ◌≤◌, Bool, true, false, cond, List, [], ◌∷◌, length, Option, Some, None, is_some, is_none, nat_eq}
 use Rattle.std.specs.List.{AllByRecursion, IsDistinct, slice_index_or}
 use Rattle.hk_chain.specs.Kept.{at_place}

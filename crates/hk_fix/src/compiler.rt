@@ -35,7 +35,8 @@ pub trait Compiler: Send + Drop {
         ensures { result ≡ (meaning self.now).item };
 
     /// Goes on to the next page that it saves, to the pages that it wants, or to its end. `NoMemory` only for want of
-    /// memory; it answers that from then on.
+    /// memory; it answers that from then on. Linear in the work up to there: of what an earlier poll did, only what had
+    /// to wait is done again.
     fn poll(&mut self, alloc: Global) -> Result<Polled, NoMemory>
         requires closed { (meaning self.old).awaits ≡ [] }
         requires going { (meaning self.old).has_ended ≡ false }
@@ -45,16 +46,18 @@ pub trait Compiler: Send + Drop {
     fn open_pairs(&self) -> &[PairNo]
         ensures { result.now ≡ (meaning self.now).awaits };
 
-    /// Answers one open pair. Takes no memory.
+    /// Answers one open pair. Takes no memory. At most linear in the open pairs, and logarithmic in those that were
+    /// answered before.
     fn answer(&mut self, pair: PairNo, page: PageRef)
         requires { Contains (meaning self.old).awaits pair }
         ensures { meaning self.new ≡ told_page (meaning self.old) pair page };
 
-    /// The open pairs of a compiler that isn't needed any more. Takes no memory.
+    /// The open pairs of a compiler that isn't needed any more. Takes no memory. Constant, but for what it lets go.
     fn into_open(self) -> Vec<PairNo>
         ensures { result.items ≡ (meaning self).awaits };
 
     /// The pairs that were answered to it, and those that its polls before the last one saved. Takes no memory.
+    /// Constant.
     fn used(&self) -> &[PairNo]
         ensures { Lists run (meaning self.now) result.now };
 
@@ -72,11 +75,11 @@ pub trait Maker: Sync {
     /// What its compilers have in common.
     ghost common_is: { Self → Self.M.Common };
 
-    /// What all its compilers have in common. `NoMemory` only for want of memory.
+    /// What all its compilers have in common. `NoMemory` only for want of memory. Constant: it is shared, not copied.
     fn common(&self, alloc: Global) -> Result<<Self::M as Compiler>::Common, NoMemory>
         ensures { IfOk result (λ c. c ≡ common_is self.now) };
 
-    /// A compiler of the item that hasn't begun. `NoMemory` only for want of memory.
+    /// A compiler of the item that hasn't begun. `NoMemory` only for want of memory. Linear in the item's chain.
     fn make(&self, alloc: Global, item: ItemNo) -> Result<Self::M, NoMemory>
         requires { item < (Self.M.shape (common_is self.now)).items }
         ensures { IfOk result (λ m. Self.M.meaning m ≡ fresh (common_is self.now) item) };
