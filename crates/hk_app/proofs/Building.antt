@@ -2,16 +2,15 @@
 use Rattle.std.proofs.Common.{◌≡◌, ℕ, Bool, true, false, ◌&&◌, cond, not, List, [], ◌∷◌, filter, map, Option, Some, None, refl, sym, ap, subst, ◌∙◌, IfSome, IfOk, Result, Ok, Err, length, inl, inr, ⊎_elim, ◌⊎◌, append-nil, ◌≤◌}
 use Rattle.std.specs.Prelude.{bytes_eq, T, ◌||◌}
 use Rattle.std.specs.Ordering.{nat_cmp, is_lt, eq_by_cmp}
-use Rattle.std.specs.Cmp.Lexicographic.{slice_cmp}
+use Rattle.std.specs.Cmp.Lexicographic.{slice_cmp, nat_list_cmp_total}
 use Rattle.std.specs.declared.cmp.Ordering.{Ordering}
-use Rattle.std.specs.FinMap.{get, entries, keys, get-entries}
+use Rattle.std.specs.FinMap.{get, entries, keys, from_entries, get-entries, get-from_entries, same_map}
 use Rattle.std.specs.FinMap.Entries.{find, find-where_key, below_all}
 use Rattle.hk_base.specs.Bytes.{Bytes, Files, ascends, paths_of}
-use Rattle.hk_base.specs.Ties.{same_test}
+use Rattle.hk_base.specs.Ties.{same_test, only_equal_tie}
 use Rattle.hk_base.proofs.Both.{left-part, right-part, both-true}
 use Rattle.hk_base.specs.declared.refusal.NoMemory.{NoMemory as NoMemory-data}
-use Rattle.hk_rules.specs.declared.item.Item.{Item}
-use Rattle.hk_rules.specs.Planning.{item_paths}
+use Rattle.hk_rules.specs.PlanView.{PlanView}
 use Rattle.hk_rules.specs.Resource.{is_ignored}
 use Rattle.hk_app.specs.declared.status.Status.{Status}
 use Rattle.hk_app.specs.declared.status.Status.TheVariants.{Ok as Done, Usage, BadRules, BadSite, ReadFault, WriteFault, OutFault, NoMemory}
@@ -21,7 +20,8 @@ use Rattle.hk_app.specs.Gathering.{RefusesReading, ReadsAs, RefusesFolder, Gathe
 use Rattle.hk_app.specs.Printed.{summary}
 use Rattle.hk_app.specs.Writing.{changes, writings, removals, after, IsMadeInPart}
 use Rattle.hk_app.specs.declared.ended.Ended.{Ended}
-use Rattle.hk_app.specs.Site.{Reading, absent, refused, unplanned, planned, found_at, rules_path, is_read, are_read, sources, files_reading, text_reading, reading, pages, page_of, site_of}
+use Rattle.hk_app.specs.Site.{Reading, absent, refused, unplanned, planned, found_at, rules_path, is_read, are_read, unignored, files_reading, text_reading, reading}
+use Rattle.hk_app.specs.Pages.{pages, site_of}
 use Rattle.hk_app.specs.World.{Folder, Folders, Output}
 use Rattle.hk_app.specs.Promise.{Command, build, command, Same, Always, Plans, IsBuilt, IsBadRules, IsBadSite, IsPartlySite, Holds, LeavesWanting, untouched, partly, whole, torn, Written, Cut, AtNoMemory, Said, IsExcused, Completes, Promise}
 use Rattle.hk_outside.specs.Causes.{Rose}
@@ -41,28 +41,18 @@ found_at-find q (e ∷ es) = ap (λ b. cond b (Some e.1) (found_at q es)) (sym (
 found_at-read : (es : List (Bytes × Bytes)) → found_at rules_path (are_read es) ≡ found_at rules_path es
 found_at-read es = found_at-find rules_path (are_read es) ∙ find-where_key R is_read rules_path (same_key is_read rules_path) es ∙ sym (found_at-find rules_path es)
 
-one-source : (e : Bytes × Bytes) (t i : Bool) (read all : List (Bytes × Bytes)) → is_ignored e.0 ≡ i → sources read ≡ all → sources (cond (t || not i) (e ∷ read) read) ≡ cond (not i) (e ∷ all) all
-one-source e true true read all h rest = ap (λ b. cond (not b) (e ∷ sources read) (sources read)) h ∙ rest
-one-source e true false read all h rest = ap (λ b. cond (not b) (e ∷ sources read) (sources read)) h ∙ ap (λ l. e ∷ l) rest
+one-source : (e : Bytes × Bytes) (t i : Bool) (read all : List (Bytes × Bytes)) → is_ignored e.0 ≡ i → unignored read ≡ all → unignored (cond (t || not i) (e ∷ read) read) ≡ cond (not i) (e ∷ all) all
+one-source e true true read all h rest = ap (λ b. cond (not b) (e ∷ unignored read) (unignored read)) h ∙ rest
+one-source e true false read all h rest = ap (λ b. cond (not b) (e ∷ unignored read) (unignored read)) h ∙ ap (λ l. e ∷ l) rest
 one-source e false true read all h rest = rest
-one-source e false false read all h rest = ap (λ b. cond (not b) (e ∷ sources read) (sources read)) h ∙ ap (λ l. e ∷ l) rest
+one-source e false false read all h rest = ap (λ b. cond (not b) (e ∷ unignored read) (unignored read)) h ∙ ap (λ l. e ∷ l) rest
 
-sources-read : (es : List (Bytes × Bytes)) → sources (are_read es) ≡ sources es
-sources-read [] = refl
-sources-read (e ∷ es) = one-source e (bytes_eq e.0 rules_path) (is_ignored e.0) (are_read es) (sources es) refl (sources-read es)
+unignored-read : (es : List (Bytes × Bytes)) → unignored (are_read es) ≡ unignored es
+unignored-read [] = refl
+unignored-read (e ∷ es) = one-source e (bytes_eq e.0 rules_path) (is_ignored e.0) (are_read es) (unignored es) refl (unignored-read es)
 
 pub files_reading-read : (es : List (Bytes × Bytes)) → files_reading (are_read es) ≡ files_reading es
-files_reading-read es = (λ i. text_reading (sources-read es i) (found_at-read es i))
-
--- ---- the targets of a plan ascend
-
-below-some : (x : Bytes) (items : List Item) → below_all R x (map (λ (k : Bytes). (k, k)) (item_paths items)) ≡ true → below_all R x (map (λ (k : Bytes). (k, k)) (paths_of (pages items))) ≡ true
-below-some x [] h = refl
-below-some x (i ∷ is) h = elim i.routed as (λ b. below_all R x (map (λ (k : Bytes). (k, k)) (paths_of (map page_of (cond b (i ∷ filter (λ i. i.routed) is) (filter (λ i. i.routed) is))))) ≡ true) [ true ↦ both-true _ _ (left-part _ _ h) (below-some x is (right-part _ _ h)) | false ↦ below-some x is (right-part _ _ h) ]
-
-pub ascends-pages : (items : List Item) → ascends (item_paths items) ≡ true → ascends (paths_of (pages items)) ≡ true
-ascends-pages [] h = refl
-ascends-pages (i ∷ is) h = elim i.routed as (λ b. ascends (paths_of (map page_of (cond b (i ∷ filter (λ i. i.routed) is) (filter (λ i. i.routed) is)))) ≡ true) [ true ↦ both-true _ _ (below-some i.path is (left-part _ _ h)) (ascends-pages is (right-part _ _ h)) | false ↦ ascends-pages is (right-part _ _ h) ]
+files_reading-read es = (λ i. text_reading (unignored-read es i) (found_at-read es i))
 
 -- ---- reading the source
 
@@ -97,16 +87,24 @@ refused-run words old new NoMemory text asked site h = absurd h
 
 -- ---- writing the site
 
-made-whole : (plan : List Item) (old new : Option Files) → IfSome old (λ m. new ≡ Some (after (changes (pages plan) m) m)) → IfSome old (IsPartlySite new plan)
+made-whole : (plan : PlanView) (old new : Option Files) → IfSome old (λ m. new ≡ Some (after (changes (pages plan) m) m)) → IfSome old (IsPartlySite new plan)
 made-whole plan None new h = tt
 made-whole plan (Some m) None h = tt
 made-whole plan (Some m) (Some n) h = record { made = changes (pages plan) m; left = []; split = append-nil (changes (pages plan) m); now = cc }
 
-both-counts : (items : List Item) (old new : Option Files) (n w d : ℕ) (text : Bytes) → text ≡ summary n w d → n ≡ length items → IfSome old (λ m. new ≡ Some (site_of items)) → IfSome old (λ m. (w ≡ length (writings (pages items) m)) × (d ≡ length (removals (pages items) (keys m)))) → IfSome old (IsBuilt new text items)
+both-counts : (items : PlanView) (old new : Option Files) (n w d : ℕ) (text : Bytes) → text ≡ summary n w d → n ≡ length items.items → IfSome old (λ m. new ≡ Some (site_of items)) → IfSome old (λ m. (w ≡ length (writings (pages items) m)) × (d ≡ length (removals (pages items) (keys m)))) → IfSome old (IsBuilt new text items)
 both-counts items None new n w d text is count site counts = tt
 both-counts items (Some m) new n w d text is count site counts = record { site = site; text = is ∙ (λ i. summary (count i) (counts.0 i) (counts.1 i)) }
 
-pub built-run : (items : List Item) (old new : Folder) (r : Result Ended NoMemory-data) (n w d : ℕ) → IfOk r (λ e. (e.status ≡ Done) × (e.text ≡ summary n w d)) → n ≡ length items
+-- the pages in order make the site again
+pages-again : (plan : PlanView) → from_entries (pages plan) ≡ site_of plan
+pages-again plan = same_map nat_list_cmp_total only_equal_tie _ _ (λ q. get-from_entries nat_list_cmp_total (pages plan) q ∙ sym (get-entries (site_of plan) q))
+
+pub whole-of-pages : (plan : PlanView) (old new : Option Files) → IfSome old (λ m. new ≡ Some (from_entries (pages plan))) → IfSome old (λ m. new ≡ Some (site_of plan))
+whole-of-pages plan None new h = tt
+whole-of-pages plan (Some m) new h = h ∙ ap Some (pages-again plan)
+
+pub built-run : (items : PlanView) (old new : Folder) (r : Result Ended NoMemory-data) (n w d : ℕ) → IfOk r (λ e. (e.status ≡ Done) × (e.text ≡ summary n w d)) → n ≡ length items.items
     → IfSome old.files (λ m. new.files ≡ Some (after (changes (pages items) m) m)) → IfSome old.files (λ m. new.files ≡ Some (site_of items))
     → IfSome old.files (λ m. (w ≡ length (writings (pages items) m)) × (d ≡ length (removals (pages items) (keys m)))) → EndsBuild items old new r
 built-run items old new (Err e) n w d said count made site counts = inl (made-whole items old.files new.files made)
@@ -114,14 +112,14 @@ built-run items old new (Ok e) n w d said count made site counts = subst (λ s. 
 
 -- ---- the promise
 
-whole-site : (items : List Item) (old new : Option Files) (text : Bytes) → IfSome old (IsBuilt new text items) → IfSome old (λ m. new ≡ Some (site_of items))
+whole-site : (items : PlanView) (old new : Option Files) (text : Bytes) → IfSome old (IsBuilt new text items) → IfSome old (λ m. new ≡ Some (site_of items))
 whole-site items None new text h = tt
 whole-site items (Some m) new text h = h.site
 
 whole-plan : (old new : Folders) (text : Bytes) → Plans old (IsBuilt new.site.files text) → Plans old (λ items before. new.site.files ≡ Some (site_of items))
 whole-plan old new text = by old.source.files
   where
-    by : (source : Option Files) → IfSome source (λ m. (items : List Item) × (reading m ≡ planned items) × IfSome old.site.files (IsBuilt new.site.files text items)) → IfSome source (λ m. (items : List Item) × (reading m ≡ planned items) × IfSome old.site.files (λ before. new.site.files ≡ Some (site_of items)))
+    by : (source : Option Files) → IfSome source (λ m. (items : PlanView) × (reading m ≡ planned items) × IfSome old.site.files (IsBuilt new.site.files text items)) → IfSome source (λ m. (items : PlanView) × (reading m ≡ planned items) × IfSome old.site.files (λ before. new.site.files ≡ Some (site_of items)))
     by None h = tt
     by (Some m) h = (h.0, h.1, whole-site h.0 old.site.files new.site.files text h.2)
 
@@ -135,19 +133,19 @@ leaves words old new WriteFault text h = torn h.asked h.cause h.site
 leaves words old new OutFault text h = absurd h
 leaves words old new NoMemory text h = absurd h
 
-not-bad-rules : (source : Option Files) (said : Bytes) (P : Type 0) → IfSome source (λ m. IsBadRules said (reading m)) → IfSome source (λ m. (items : List Item) → reading m ≡ planned items → P)
+not-bad-rules : (source : Option Files) (said : Bytes) (P : Type 0) → IfSome source (λ m. IsBadRules said (reading m)) → IfSome source (λ m. (items : PlanView) → reading m ≡ planned items → P)
 not-bad-rules None said P h = tt
 not-bad-rules (Some m) said P h = λ items is. absurd (subst (IsBadRules said) is h)
 
-not-bad-site : (source : Option Files) (said : Bytes) (P : Type 0) → IfSome source (λ m. IsBadSite said (reading m)) → IfSome source (λ m. (items : List Item) → reading m ≡ planned items → P)
+not-bad-site : (source : Option Files) (said : Bytes) (P : Type 0) → IfSome source (λ m. IsBadSite said (reading m)) → IfSome source (λ m. (items : PlanView) → reading m ≡ planned items → P)
 not-bad-site None said P h = tt
 not-bad-site (Some m) said P h = λ items is. absurd (subst (IsBadSite said) is h)
 
-always-true : (source : Option Files) (P : Type 0) → P → IfSome source (λ m. (items : List Item) → reading m ≡ planned items → P)
+always-true : (source : Option Files) (P : Type 0) → P → IfSome source (λ m. (items : PlanView) → reading m ≡ planned items → P)
 always-true None P p = tt
 always-true (Some m) P p = λ items is. p
 
-completes : (words : List Bytes) (old new : Folders) (out out' : Output) (status : Status) (text : Bytes) → Holds words old new status text → command words ≡ Some build → IfSome old.source.files (λ m. (items : List Item) → reading m ≡ planned items → Completes old new out out' status)
+completes : (words : List Bytes) (old new : Folders) (out out' : Output) (status : Status) (text : Bytes) → Holds words old new status text → command words ≡ Some build → IfSome old.source.files (λ m. (items : PlanView) → reading m ≡ planned items → Completes old new out out' status)
 completes words old new out out' Done text h asked = always-true old.source.files (Unit {0}) tt
 completes words old new out out' Usage text h asked = absurd (cc (h.cause))
 completes words old new out out' BadRules text h asked = not-bad-rules old.source.files text (IsExcused old new out out') h.cause
@@ -213,7 +211,7 @@ none-rose : (old new : Folders) (out out' : Output) → IsExcused old new out ou
 none-rose old new out out' h a b c = ⊎_elim (λ x. ⊎_elim a b x) c h.some
 
 pub done-or-wanting : (words : List Bytes) (m : Files) (old new : Folders) (out out' : Output) (status : Status) → old.source.files ≡ Some m → ¬ (Rose old.source.faults new.source.faults) → ¬ (Rose old.site.faults new.site.faults) → ¬ (Rose out.faults out'.faults) → Promise words old new out out' status → DoneOrWanting words m status
-done-or-wanting words m old new out out' status told a b c p items asked is = by status (subst (λ o. IfSome o (λ m. (items : List Item) → reading m ≡ planned items → Completes old new out out' status)) told (p.complete asked) items is)
+done-or-wanting words m old new out out' status told a b c p items asked is = by status (subst (λ o. IfSome o (λ m. (items : PlanView) → reading m ≡ planned items → Completes old new out out' status)) told (p.complete asked) items is)
   where
     by : (status : Status) → Completes old new out out' status → (status ≡ Done) ⊎ (status ≡ NoMemory)
     by Done h = inl refl

@@ -1,7 +1,6 @@
 -- What reading the source comes to.
-use Rattle.std.specs.Prelude.{◌≡◌, IfSome, IsTrue}
-use Rattle.hk_base.specs.Bytes.{Bytes, ascends}
-use Rattle.hk_rules.specs.Planning.{item_paths}
+use Rattle.std.specs.Prelude.{◌≡◌, IfSome}
+use Rattle.hk_base.specs.Bytes.{Bytes}
 use Rattle.hk_outside.specs.Causes.{Rose}
 use Rattle.hk_app.specs.declared.status.Status.{Status}
 use Rattle.hk_app.specs.declared.status.Status.TheVariants.{BadRules, BadSite, ReadFault}
@@ -20,7 +19,7 @@ RefusesReading r status text = ⊥
 
 abbrev pub ReadsAs : Reading → Gathered → Type 0
 ReadsAs r (Refused e) = RefusesReading r e.status e.text
-ReadsAs r (Planned items) = r ≡ planned items
+ReadsAs r (Planned plan) = r ≡ planned plan
 
 -- a status and a text that refuse a folder, or the reading of it
 abbrev pub RefusesFolder : Folder → Folder → Status → Bytes → Type 0
@@ -31,9 +30,4 @@ RefusesFolder old new status text = ⊥
 
 abbrev pub Gathers : Folder → Folder → Gathered → Type 0
 Gathers old new (Refused e) = RefusesFolder old new e.status e.text
-Gathers old new (Planned items) = IfSome old.files (λ m. reading m ≡ planned items)
-
--- the items of a plan are in order
-abbrev pub ItemsAscend : Gathered → Type 0
-ItemsAscend (Refused e) = Unit {0}
-ItemsAscend (Planned items) = IsTrue (ascends (item_paths items))
+Gathers old new (Planned plan) = IfSome old.files (λ m. reading m ≡ planned plan)

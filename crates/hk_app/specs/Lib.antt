@@ -1,5 +1,6 @@
 pub mod Complete
 pub mod Gathering
+pub mod Pages
 pub mod Printed
 pub mod Promise
 pub mod Reading

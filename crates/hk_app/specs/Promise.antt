@@ -3,10 +3,11 @@ use Rattle.std.specs.Prelude.{◌≡◌, ◌⊎◌, ℕ, ◌≤◌, List, [], �
 use Rattle.std.specs.FinMap.{keys}
 use Rattle.hk_base.specs.Bytes.{Bytes, Files}
 use Rattle.hk_outside.specs.Causes.{Rose}
-use Rattle.hk_rules.specs.declared.item.Item.{Item}
+use Rattle.hk_rules.specs.PlanView.{PlanView}
 use Rattle.hk_app.specs.declared.status.Status.{Status}
 use Rattle.hk_app.specs.declared.status.Status.TheVariants.{Ok as Done, Usage, BadRules, BadSite, ReadFault, WriteFault, OutFault, NoMemory}
-use Rattle.hk_app.specs.Site.{Reading, absent, refused, unplanned, planned, reading, pages, site_of}
+use Rattle.hk_app.specs.Site.{Reading, absent, refused, unplanned, planned, reading}
+use Rattle.hk_app.specs.Pages.{pages, site_of}
 use Rattle.hk_app.specs.Printed.{usage, absent_line, rules_line, plan_line, read_fault_line, write_fault_line, summary}
 use Rattle.hk_app.specs.Writing.{changes, writings, removals, IsMadeInPart, IsTornInPart}
 use Rattle.hk_app.specs.World.{Folder, Output, Folders}
@@ -36,14 +37,14 @@ pub record Always (old new : Folders) : Type 0 where
   pub cache : Same old.cache new.cache
   pub cache_count : new.cache.faults ≡ old.cache.faults
 
--- the source has rules that make a plan of it, and of its items and of the site's files before P holds
-abbrev pub Plans : Folders → (List Item → Files → Type 0) → Type 0
-Plans old P = IfSome old.source.files (λ m. (items : List Item) × (reading m ≡ planned items) × IfSome old.site.files (P items))
+-- the source has rules that make a plan of it, and of this and of the site's files before P holds
+abbrev pub Plans : Folders → (PlanView → Files → Type 0) → Type 0
+Plans old P = IfSome old.source.files (λ m. (plan : PlanView) × (reading m ≡ planned plan) × IfSome old.site.files (P plan))
 
 -- the site holds exactly the pages, and the text counts what was compiled, written and removed
-pub record IsBuilt (left : Option Files) (said : Bytes) (items : List Item) (before : Files) : Type 0 where
-  pub site : left ≡ Some (site_of items)
-  pub text : said ≡ summary (length items) (length (writings (pages items) before)) (length (removals (pages items) (keys before)))
+pub record IsBuilt (left : Option Files) (said : Bytes) (plan : PlanView) (before : Files) : Type 0 where
+  pub site : left ≡ Some (site_of plan)
+  pub text : said ≡ summary (length plan.items) (length (writings (pages plan) before)) (length (removals (pages plan) (keys before)))
 
 pub record AtOk (words : List Bytes) (old new : Folders) (said : Bytes) : Type 0 where
   pub asked : command words ≡ Some build
@@ -59,7 +60,7 @@ abbrev pub IsBadRules : Bytes → Reading → Type 0
 IsBadRules said absent = said ≡ absent_line
 IsBadRules said (refused fault) = said ≡ rules_line fault
 IsBadRules said (unplanned fault) = ⊥
-IsBadRules said (planned items) = ⊥
+IsBadRules said (planned plan) = ⊥
 
 pub record AtBadRules (words : List Bytes) (old new : Folders) (said : Bytes) : Type 0 where
   pub asked : command words ≡ Some build
@@ -71,7 +72,7 @@ abbrev pub IsBadSite : Bytes → Reading → Type 0
 IsBadSite said absent = ⊥
 IsBadSite said (refused fault) = ⊥
 IsBadSite said (unplanned fault) = said ≡ plan_line fault
-IsBadSite said (planned items) = ⊥
+IsBadSite said (planned plan) = ⊥
 
 pub record AtBadSite (words : List Bytes) (old new : Folders) (said : Bytes) : Type 0 where
   pub asked : command words ≡ Some build
@@ -85,12 +86,12 @@ pub record AtReadFault (words : List Bytes) (old new : Folders) (said : Bytes) :
   pub text : said ≡ read_fault_line
 
 -- some first of the changes were made, and what a failed one left stands besides
-abbrev pub IsTornSite : Option Files → List Item → Files → Type 0
-IsTornSite left items before = IfSome left (IsTornInPart (changes (pages items) before) before)
+abbrev pub IsTornSite : Option Files → PlanView → Files → Type 0
+IsTornSite left plan before = IfSome left (IsTornInPart (changes (pages plan) before) before)
 
 -- some first of the changes were made, and no other
-abbrev pub IsPartlySite : Option Files → List Item → Files → Type 0
-IsPartlySite left items before = IfSome left (IsMadeInPart (changes (pages items) before) before)
+abbrev pub IsPartlySite : Option Files → PlanView → Files → Type 0
+IsPartlySite left plan before = IfSome left (IsMadeInPart (changes (pages plan) before) before)
 
 pub record AtWriteFault (words : List Bytes) (old new : Folders) (said : Bytes) : Type 0 where
   pub asked : command words ≡ Some build
@@ -110,8 +111,8 @@ Holds words old new OutFault text = ⊥
 Holds words old new NoMemory text = ⊥
 
 -- the site holds exactly the pages
-abbrev pub IsWholeSite : Option Files → List Item → Files → Type 0
-IsWholeSite left items before = left ≡ Some (site_of items)
+abbrev pub IsWholeSite : Option Files → PlanView → Files → Type 0
+IsWholeSite left plan before = left ≡ Some (site_of plan)
 
 -- what want of memory leaves: the site as it was, or some first of the changes made, or the whole site, and only after a
 -- counted fault what a failed change left
@@ -153,4 +154,4 @@ pub record Promise (words : List Bytes) (old new : Folders) (out out' : Output) 
   pub always : Always old new
   pub later : out.faults ≤ out'.faults
   pub said : Said words old new out out' status
-  pub complete : command words ≡ Some build → IfSome old.source.files (λ m. (items : List Item) → reading m ≡ planned items → Completes old new out out' status)
+  pub complete : command words ≡ Some build → IfSome old.source.files (λ m. (plan : PlanView) → reading m ≡ planned plan → Completes old new out out' status)

@@ -3,7 +3,7 @@ use Rattle.std.specs.Prelude.{◌≡◌, ◌⊎◌, List, IfSome, Result, Ok, Er
 use Rattle.hk_base.specs.declared.refusal.NoMemory.{NoMemory as NoMemory-data}
 use Rattle.hk_base.specs.Bytes.{Bytes}
 use Rattle.hk_outside.specs.Causes.{Rose}
-use Rattle.hk_rules.specs.declared.item.Item.{Item}
+use Rattle.hk_rules.specs.PlanView.{PlanView}
 use Rattle.hk_app.specs.declared.status.Status.{Status}
 use Rattle.hk_app.specs.declared.status.Status.TheVariants.{Ok as Done, WriteFault, OutFault, NoMemory}
 use Rattle.hk_app.specs.declared.ended.Ended.{Ended}
@@ -25,18 +25,18 @@ EndsWith words old new (Ok e) = Ends words old new e.status e.text
 EndsWith words old new (Err e) = Wants words old new
 
 -- what the writing of a plan's pages came to: all were written, or a call failed, or memory was wanting
-abbrev pub EndsBuilt : List Item → Folder → Folder → Status → Bytes → Type 0
-EndsBuilt items old new Done text = IfSome old.files (IsBuilt new.files text items)
-EndsBuilt items old new WriteFault text = Rose old.faults new.faults × (IfSome old.files (IsTornSite new.files items) × (text ≡ write_fault_line))
-EndsBuilt items old new status text = ⊥
+abbrev pub EndsBuilt : PlanView → Folder → Folder → Status → Bytes → Type 0
+EndsBuilt plan old new Done text = IfSome old.files (IsBuilt new.files text plan)
+EndsBuilt plan old new WriteFault text = Rose old.faults new.faults × (IfSome old.files (IsTornSite new.files plan) × (text ≡ write_fault_line))
+EndsBuilt plan old new status text = ⊥
 
 -- memory was wanting after some of the changes, or after a failed one
-abbrev pub WantsBuilt : List Item → Folder → Folder → Type 0
-WantsBuilt items old new = IfSome old.files (IsPartlySite new.files items) ⊎ (Rose old.faults new.faults × IfSome old.files (IsTornSite new.files items))
+abbrev pub WantsBuilt : PlanView → Folder → Folder → Type 0
+WantsBuilt plan old new = IfSome old.files (IsPartlySite new.files plan) ⊎ (Rose old.faults new.faults × IfSome old.files (IsTornSite new.files plan))
 
-abbrev pub EndsBuild : List Item → Folder → Folder → Result Ended NoMemory-data → Type 0
-EndsBuild items old new (Ok e) = EndsBuilt items old new e.status e.text
-EndsBuild items old new (Err e) = WantsBuilt items old new
+abbrev pub EndsBuild : PlanView → Folder → Folder → Result Ended NoMemory-data → Type 0
+EndsBuild plan old new (Ok e) = EndsBuilt plan old new e.status e.text
+EndsBuild plan old new (Err e) = WantsBuilt plan old new
 
 -- what saying a text makes of a status
 abbrev pub Says : Output → Output → Bytes → Status → Status → Type 0

@@ -1,15 +1,13 @@
 -- What a build makes of a folder.
-use Rattle.std.specs.Prelude.{ℕ, Bool, false, ◌||◌, not, List, [], ◌∷◌, Option, Some, None, Result, Ok, Err, codes, bytes_eq, map, if◌then◌else◌}
+use Rattle.std.specs.Prelude.{Bool, ◌||◌, not, List, [], ◌∷◌, Option, Some, None, Result, Ok, Err, codes, bytes_eq, if◌then◌else◌}
 use Rattle.std.specs.List.{filter}
-use Rattle.std.specs.FinMap.{get, entries, from_entries}
+use Rattle.std.specs.FinMap.{entries}
 use Rattle.hk_base.specs.Bytes.{Bytes, Files}
-use Rattle.hk_rules.specs.declared.rule.Rule.{Rule}
-use Rattle.hk_rules.specs.declared.rule.Step.{Step}
-use Rattle.hk_rules.specs.declared.rule.Step.TheVariants.{Body, Str, Copy}
-use Rattle.hk_rules.specs.declared.item.Item.{Item}
 use Rattle.hk_rules.specs.declared.fault.RulesFault.{RulesFault}
-use Rattle.hk_rules.specs.declared.fault.PlanFault.{PlanFault}
-use Rattle.hk_rules.specs.Form.{rules_of}
+use Rattle.hk_rules.specs.declared.plan_fault.PlanFault.{PlanFault}
+use Rattle.hk_rules.specs.Rules.{RulesView}
+use Rattle.hk_rules.specs.RulesForm.{rules_of}
+use Rattle.hk_rules.specs.PlanView.{PlanView}
 use Rattle.hk_rules.specs.Planning.{plan_of}
 use Rattle.hk_rules.specs.Resource.{is_ignored}
 
@@ -24,26 +22,26 @@ abbrev pub are_read : List (Bytes × Bytes) → List (Bytes × Bytes)
 are_read files = filter (λ e. is_read e.0) files
 
 -- the files that the rules speak of
-abbrev pub sources : List (Bytes × Bytes) → List (Bytes × Bytes)
-sources files = filter (λ e. not (is_ignored e.0)) files
+abbrev pub unignored : List (Bytes × Bytes) → List (Bytes × Bytes)
+unignored files = filter (λ e. not (is_ignored e.0)) files
 
 -- what the first entry of a path holds
 abbrev pub found_at : Bytes → List (Bytes × Bytes) → Option Bytes
 found_at path [] = None
 found_at path (e ∷ es) = if bytes_eq e.0 path then Some e.1 else found_at path es
 
--- what a folder comes to: no rules file, refused rules, rules that make no plan of it, or the items of its plan
+-- what a folder comes to: no rules file, refused rules, rules that make no plan of it, or its plan
 pub data Reading : Type 0 where
   absent : Reading
   refused : RulesFault → Reading
   unplanned : PlanFault → Reading
-  planned : List Item → Reading
+  planned : PlanView → Reading
 
-abbrev pub plan_reading : Result (List Item) PlanFault → Reading
+abbrev pub plan_reading : Result PlanView PlanFault → Reading
 plan_reading (Err fault) = unplanned fault
-plan_reading (Ok items) = planned items
+plan_reading (Ok plan) = planned plan
 
-abbrev pub rules_reading : List (Bytes × Bytes) → Result (List Rule) RulesFault → Reading
+abbrev pub rules_reading : List (Bytes × Bytes) → Result RulesView RulesFault → Reading
 rules_reading files (Err fault) = refused fault
 rules_reading files (Ok rules) = plan_reading (plan_of rules files)
 
@@ -52,25 +50,8 @@ text_reading files None = absent
 text_reading files (Some bytes) = rules_reading files (rules_of bytes)
 
 abbrev pub files_reading : List (Bytes × Bytes) → Reading
-files_reading files = text_reading (sources files) (found_at rules_path files)
+files_reading files = text_reading (unignored files) (found_at rules_path files)
 
 -- what a build makes of a folder
 abbrev pub reading : Files → Reading
 reading m = files_reading (entries m)
-
--- the page that a chain of one step makes of a resource without a header
-abbrev pub page_by : Step → Bytes → Bytes
-page_by Body resource = resource
-page_by Str resource = resource
-page_by Copy resource = resource
-
-abbrev pub page_of : Item → Bytes × Bytes
-page_of item = (item.path, page_by item.step item.resource)
-
--- the pages of the items that are written, by their targets
-abbrev pub pages : List Item → List (Bytes × Bytes)
-pages items = map page_of (filter (λ i. i.routed) items)
-
--- the site: the map from target to page
-abbrev pub site_of : List Item → Files
-site_of items = from_entries (pages items)

@@ -1,8 +1,7 @@
 // What the source comes to under its rules: a plan, or the refusal of one.
-ghost use Rattle.std.specs.Prelude.{◌≡◌, ◌≤◌, IfOk, IsTrue, option_map};
-ghost use Rattle.hk_base.specs.Bytes.{ascends, paths_of};
+ghost use Rattle.std.specs.Prelude.{◌≡◌, ◌≤◌, IfOk, option_map};
 ghost use Rattle.hk_rules.specs.Planning.{plan_of};
-ghost use Rattle.hk_app.specs.Gathering.{ReadsAs, Gathers, ItemsAscend};
+ghost use Rattle.hk_app.specs.Gathering.{ReadsAs, Gathers};
 ghost use Rattle.hk_app.specs.Site as spec;
 ghost use Rattle.hk_app.specs.Site.{files_reading, plan_reading, rules_path, found_at};
 ghost use Rattle.hk_app.specs.World.{folder};
@@ -25,7 +24,6 @@ pub enum Gathered {
 /// Reads the source, its rules and the plan that they make of it.
 pub fn gather<S: Tree>(alloc: Global, source: &mut S) -> Result<Gathered, NoMemory>
     ensures gathers { IfOk result (Gathers (folder (S.files source.old) (S.faults source.old)) (folder (S.files source.new) (S.faults source.new))) }
-    ensures ascending { IfOk result ItemsAscend }
     ensures same { S.files source.new ≡ S.files source.old }
     ensures later { S.faults source.old ≤ S.faults source.new }
 {
@@ -41,35 +39,35 @@ pub fn gather<S: Tree>(alloc: Global, source: &mut S) -> Result<Gathered, NoMemo
 }
 
 fn plan_files(alloc: Global, files: Vec<(Text, Text)>) -> Result<Gathered, NoMemory>
-    requires { IsTrue (ascends (paths_of files.items)) }
-    ensures reads { IfOk result (ReadsAs (files_reading files.items)) }
-    ensures ascending { IfOk result ItemsAscend }
+    ensures { IfOk result (ReadsAs (files_reading files.items)) }
 {
     match rules_text(files.as_slice()) {
         Some(bytes) => match read_rules(alloc, bytes) {
-            Ok(rules) => plan_sources(alloc, rules, files),
-            Err(Refusal::Fault(fault)) => Ok(Gathered::Refused(bad_rules(alloc, fault)?)),
+            Ok(rules) => plan_unignored(alloc, rules, files),
+            Err(Refusal::Fault(fault)) => Ok(Gathered::Refused(bad_rules(alloc, &fault)?)),
             Err(Refusal::NoMemory) => Err(NoMemory),
         },
         None => Ok(Gathered::Refused(Ended::new(alloc, Status::BadRules, b"site.toml: absent\n")?)),
     }
 }
 
-fn plan_sources(alloc: Global, rules: Rules, files: Vec<(Text, Text)>) -> Result<Gathered, NoMemory>
-    requires { IsTrue (ascends (paths_of files.items)) }
-    ensures reads { IfOk result (ReadsAs (plan_reading (plan_of rules (spec.sources files.items)))) }
-    ensures ascending { IfOk result ItemsAscend }
+fn plan_unignored(
+    alloc: Global,
+    rules: Rules,
+    files: Vec<(Text, Text)>,
+) -> Result<Gathered, NoMemory>
+    ensures { IfOk result (ReadsAs (plan_reading (plan_of rules (spec.unignored files.items)))) }
 {
-    match make_plan(alloc, rules, sources(files)) {
+    match make_plan(alloc, rules, unignored(files)) {
         Ok(plan) => Ok(Gathered::Planned(plan)),
-        Err(Refusal::Fault(fault)) => Ok(Gathered::Refused(bad_site(alloc, fault)?)),
+        Err(Refusal::Fault(fault)) => Ok(Gathered::Refused(bad_site(alloc, &fault)?)),
         Err(Refusal::NoMemory) => Err(NoMemory),
     }
 }
 
 /// The files that the rules speak of.
-fn sources(files: Vec<(Text, Text)>) -> Vec<(Text, Text)>
-    ensures { result.items ≡ spec.sources files.items }
+fn unignored(files: Vec<(Text, Text)>) -> Vec<(Text, Text)>
+    ensures { result.items ≡ spec.unignored files.items }
 {
     let mut files = files;
     files.retain(|file| !is_ignored(file.0.as_slice()));

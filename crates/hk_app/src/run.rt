@@ -1,7 +1,5 @@
 // One run, from the words to the status.
-ghost use Rattle.std.specs.Prelude.{◌≡◌, ◌≤◌, ◌≢◌, map, string_bytes, is_some, IsTrue};
-ghost use Rattle.hk_base.specs.Bytes.{ascends};
-ghost use Rattle.hk_rules.specs.Planning.{item_paths};
+ghost use Rattle.std.specs.Prelude.{◌≡◌, ◌≤◌, ◌≢◌, map, string_bytes, is_some};
 ghost use Rattle.hk_app.specs.Promise.{Promise, Told, command};
 ghost use Rattle.hk_app.specs.Run.{Says, EndsWith, EndsBuild};
 ghost use Rattle.hk_app.specs.World.{folder, output, folders};
@@ -78,13 +76,12 @@ fn is_build(words: &[String]) -> bool
 
 /// Writes the pages of a plan.
 fn build<O: Tree>(alloc: Global, site: &mut O, plan: Plan) -> Result<Ended, NoMemory>
-    requires { IsTrue (ascends (item_paths plan)) }
     ensures ends { EndsBuild plan (folder (O.files site.old) (O.faults site.old)) (folder (O.files site.new) (O.faults site.new)) result }
     ensures told { Told (folder (O.files site.old) (O.faults site.old)) (folder (O.files site.new) (O.faults site.new)) }
     ensures later { O.faults site.old ≤ O.faults site.new }
 {
-    let items = plan.items().len();
-    let pages = pages(alloc, plan)?;
+    let items = plan.count() as usize;
+    let pages = pages(alloc, &plan)?;
     match write_site(alloc, site, pages.as_slice()) {
         Ok(counts) => summary(alloc, items, &counts),
         Err(TreeFault::Failed) => {

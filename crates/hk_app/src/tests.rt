@@ -88,9 +88,10 @@ fn built(
 #[test]
 fn each_refusal_has_its_line(rt: HostRuntime) -> Result<(), test::Fail> {
     let alloc = rt.alloc();
-    let star = "[[rule]]\nmatch = \"*\"\ncompile = [\"copy\"]\n";
-    let fence = [("a.txt", "---\n---\nx"), ("site.toml", RULES)];
-    let rows: [(&[(&str, &str)], u8, &str); 5] = [
+    let bare = "[[rule]]\ncompile = [\"copy\"]\n";
+    let later = "[[rule]]\nmatch = \"**\"\ncompile = [\"template\"]\n";
+    let header = [("a.txt", "---\nk: v\n"), ("site.toml", RULES)];
+    let rows: [(&[(&str, &str)], u8, &str); 6] = [
         (
             &[("site.toml", "")],
             0,
@@ -98,8 +99,13 @@ fn each_refusal_has_its_line(rt: HostRuntime) -> Result<(), test::Fail> {
         ),
         (&[("a.txt", "")], 3, "site.toml: absent\n"),
         (&[("site.toml", "[[rule]\n")], 3, "site.toml: not TOML\n"),
-        (&[("site.toml", star)], 3, "site.toml: not yet, rule 1\n"),
-        (&fence, 4, "site: not yet a.txt\n"),
+        (&[("site.toml", bare)], 3, "site.toml: rule 1: match\n"),
+        (&header, 4, "site: header of a.txt, line 1\n"),
+        (
+            &[("a.txt", ""), ("site.toml", later)],
+            4,
+            "site: not yet a.txt\n",
+        ),
     ];
     for (list, code, text) in rows {
         let mut site = fused(alloc, &SITE, None)?;
@@ -109,6 +115,31 @@ fn each_refusal_has_its_line(rt: HostRuntime) -> Result<(), test::Fail> {
         assert_eq!(rt; out.as_slice(), text.as_bytes());
         assert_eq!(rt; site.get(b"old.txt").is_none(), code == 0);
     }
+    Ok(())
+}
+
+/// What a rule creates comes before what a file gives, a header is left out of a body, and targets are sorted.
+#[test]
+fn pages_of_rules(rt: HostRuntime) -> Result<(), test::Fail> {
+    let alloc = rt.alloc();
+    let rules =
+        "[[rule]]\ncreate = [\"z.txt\"]\nroute = { constant = \"a.txt\" }\ncompile = [{ make = \"x\" }]\n\
+        [[rule]]\nmatch = \"*.md\"\nroute = { extension = \"html\" }\ncompile = [\"string\", \"body\"]\n";
+    let list = [
+        ("b.md", "---\nk: v\n---\nbody\n"),
+        ("site.toml", rules),
+        ("z.txt", "z"),
+    ];
+    let mut site = fused(alloc, &SITE, None)?;
+    let mut out = StillSink::new(alloc)?;
+    let status = built(alloc, &list, &mut site, &mut out)?;
+    assert_eq!(rt; status, Status::Ok);
+    assert_eq!(rt;
+        out.as_slice(),
+        b"compiled 2, reused 0, written 2, removed 1\n".as_slice()
+    );
+    assert!(rt; site.get(b"a.txt") == Some(b"x".as_slice()));
+    assert!(rt; site.get(b"b.html") == Some(b"body\n".as_slice()));
     Ok(())
 }
 

@@ -1,45 +1,34 @@
--- The companions among the files, one file after another.
-use Rattle.std.proofs.Common.{◌≡◌, ℕ, Bool, true, false, cond, ◌||◌, List, ◌++◌, ◌+◌, ◌-◌, ◌<◌, length, take, get_or, refl, sym, ap, ◌∙◌}
+-- The files with their companions, one file after another.
+use Rattle.std.proofs.Common.{◌≡◌, true, cond, not, List, [], ◌∷◌, ◌++◌, Option, Some, None, sym, ap, ◌∙◌}
 use Rattle.std.specs.Prelude.{bytes_eq}
 use Rattle.std.specs.Ordering.{nat_cmp, is_eq}
 use Rattle.std.specs.Cmp.Lexicographic.{slice_cmp}
-use Rattle.std.proofs.lemmas.List.Folds.{list_any_more}
+use Rattle.std.proofs.lemmas.List.{append-nil}
+use Rattle.std.proofs.lemmas.List.Elements.{filter-append}
+use Rattle.std.proofs.lemmas.Grind.{fold-append}
+use Rattle.std.proofs.lemmas.Map.Text.{is_eq-slice_cmp}
 use Rattle.hk_base.specs.Bytes.{Bytes}
-use Rattle.hk_rules.specs.Planning.{has_companion}
-use Rattle.hk_rules.specs.Resource.{is_companion, companion_ending}
-use Rattle.hk_rules.proofs.Endings.{ending-cut, ending-other}
+use Rattle.hk_rules.specs.Resource.{is_companion}
+use Rattle.hk_rules.specs.Sources.{others, companions, text_at, text_if, sources_by, sources}
 
-abbrev goes_with : Bytes → Bytes × Bytes → Bool
-goes_with path file = bytes_eq file.0 (path ++ companion_ending)
+-- a companion is no source
+pub others-turn : (files : List (Bytes × Bytes)) (k v : Bytes) → is_companion k ≡ true → others files ≡ others (files ++ (k, v) ∷ [])
+others-turn files k v is =
+    sym (filter-append (λ file. not (is_companion file.0)) files ((k, v) ∷ [])
+    ∙ ap (λ b. others files ++ cond (not b) ((k, v) ∷ []) []) is
+    ∙ append-nil (others files))
 
-either : (b old : Bool) → cond b true old ≡ (old || b)
-either true true = refl
-either true false = refl
-either false true = refl
-either false false = refl
+-- it is found at its path from then on
+pub text-turn : (files : List (Bytes × Bytes)) (k v w path : Bytes) (old new : Option Bytes) → is_companion k ≡ true → w ≡ v → new ≡ cond (is_eq (slice_cmp nat_cmp k path)) (Some w) old → old ≡ text_at (companions files) path → new ≡ text_at (companions (files ++ (k, v) ∷ [])) path
+text-turn files k v w path old new is same update so_far =
+    update
+    ∙ ap (λ b. cond b (Some w) old) (is_eq-slice_cmp k path)
+    ∙ ap (λ x. cond (bytes_eq k path) (Some x) old) same
+    ∙ ap (λ o. cond (bytes_eq k path) (Some v) o) so_far
+    ∙ sym (ap (λ fs. text_at fs path) (filter-append (λ file. is_companion file.0) files ((k, v) ∷ []))
+    ∙ ap (λ b. text_at (companions files ++ cond b ((k, v) ∷ []) []) path) is
+    ∙ fold-append (text_if path) None (companions files) ((k, v) ∷ []))
 
-neither : (old : Bool) → old ≡ (old || false)
-neither true = refl
-neither false = refl
-
--- a companion is put into the set
-pub companion-turn : (files : List (Bytes × Bytes)) (i : ℕ) (file : Bytes × Bytes) (p key path : Bytes) (old new : Bool) → i < length files → file ≡ get_or files i file → p ≡ file.0 → is_companion p ≡ true → key ≡ take (length p - 9) p → old ≡ has_companion (take i files) path → new ≡ cond (is_eq (slice_cmp nat_cmp key path)) true old → new ≡ has_companion (take (i + 1) files) path
-companion-turn files i file p key path old new h at is ends cut so_far put =
-    put
-    ∙ ap (λ k. cond (is_eq (slice_cmp nat_cmp k path)) true old) cut
-    ∙ ap (λ b. cond b true old) (ending-cut p path companion_ending ends)
-    ∙ either (bytes_eq p (path ++ companion_ending)) old
-    ∙ ap (λ o. o || bytes_eq p (path ++ companion_ending)) so_far
-    ∙ ap (λ q. has_companion (take i files) path || bytes_eq q (path ++ companion_ending)) is
-    ∙ ap (λ f. has_companion (take i files) path || goes_with path f) at
-    ∙ sym (list_any_more (goes_with path) files i file h)
-
--- any other file isn't
-pub companion-other : (files : List (Bytes × Bytes)) (i : ℕ) (file : Bytes × Bytes) (p path : Bytes) (old : Bool) → i < length files → file ≡ get_or files i file → p ≡ file.0 → is_companion p ≡ false → old ≡ has_companion (take i files) path → old ≡ has_companion (take (i + 1) files) path
-companion-other files i file p path old h at is ends so_far =
-    neither old
-    ∙ ap (λ o. o || false) so_far
-    ∙ ap (λ b. has_companion (take i files) path || b) (sym (ending-other p path companion_ending ends))
-    ∙ ap (λ q. has_companion (take i files) path || bytes_eq q (path ++ companion_ending)) is
-    ∙ ap (λ f. has_companion (take i files) path || goes_with path f) at
-    ∙ sym (list_any_more (goes_with path) files i file h)
+pub sources-whole : (rest : List (Bytes × Bytes)) (companion : Bytes → Option Bytes) (files : List (Bytes × Bytes)) → rest ≡ others files → ((path : Bytes) → companion path ≡ text_at (companions files) path) → sources_by companion rest ≡ sources files
+unfolding sources
+sources-whole rest companion files r c = λ i. sources_by (λ path. c path i) (r i)

@@ -5,7 +5,7 @@ use Rattle.std.proofs.lemmas.Str.{IsUtf8-from_is_utf8, is_utf8-from_IsUtf8}
 use Rattle.toml.specs.Data.{Members}
 use Rattle.toml.specs.Parse.{parse_document}
 use Rattle.hk_base.specs.Bytes.{Bytes}
-use Rattle.hk_rules.specs.Form.{document}
+use Rattle.hk_rules.specs.RulesForm.{document}
 
 pub document-text : (bytes : Bytes) (o : Option Members) → IsUtf8 bytes → parse_document bytes ≡ o → document bytes ≡ o
 unfolding document

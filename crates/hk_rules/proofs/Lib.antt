@@ -1,8 +1,12 @@
-pub mod Ascending
-pub mod Companions
+pub mod Claiming
+mod Companions
+pub mod Clashing
 pub mod Documents
-pub mod Endings
-pub mod Items
-pub mod Makings
-pub mod Numbered
+pub mod Open
+pub mod Outcome
+pub mod Pairing
+pub mod Places
+pub mod Planned
+pub mod Searching
 pub mod Tables
+pub mod Traversal

@@ -1,52 +1,74 @@
 -- The plan that rules make of the files of a folder.
-use Rattle.std.specs.Prelude.{List, Bool, ◌||◌, ◌++◌, map, Option, Some, None, option_map, Result, Ok, Err, bytes_eq, if◌then◌else◌}
-use Rattle.std.specs.List.{find, filter_map, list_any}
+use Rattle.std.specs.Prelude.{List, Bool, true, false, not, nat_lt, length, Option, Some, None, option_map, Result, Ok, if◌then◌else◌}
+use Rattle.std.specs.List.{find, list_all}
 use Rattle.hk_base.specs.Bytes.{Bytes}
-use Rattle.hk_rules.specs.Fence.{begins_with_fence}
-use Rattle.hk_rules.specs.Resource.{is_companion, companion_ending}
-use Rattle.hk_rules.specs.declared.rule.Rule.{Rule}
-use Rattle.hk_rules.specs.declared.item.Item.{Item}
-use Rattle.hk_rules.specs.declared.making.Making.{Making}
-use Rattle.hk_rules.specs.declared.fault.PlanFault.{PlanFault}
-use Rattle.hk_rules.specs.declared.fault.PlanFault.TheVariants.{NotYet}
+use Rattle.hk_base.specs.Identifier.{is_path}
+use Rattle.hk_chain.specs.Context.{ContextView}
+use Rattle.hk_chain.specs.declared.chain.Step.{Step}
+use Rattle.hk_chain.specs.declared.chain.Step.TheVariants.{Body, Str, Copy, Make}
+use Rattle.hk_meta.specs.declared.answer.Split.{Split}
+use Rattle.hk_pattern.specs.declared.pattern.Pattern.{Pattern}
+use Rattle.hk_rules.specs.Clashes.{sites, clash_fault}
+use Rattle.hk_rules.specs.Headers.{header_of}
+use Rattle.hk_rules.specs.Outcomes.{unless, after, each}
+use Rattle.hk_rules.specs.PlanView.{PlanView}
+use Rattle.hk_rules.specs.Rules.{RulesView}
+use Rattle.hk_rules.specs.Sources.{sources}
+use Rattle.hk_rules.specs.Targets.{target_of}
+use Rattle.hk_rules.specs.Universe.{Claim, universe}
+use Rattle.hk_rules.specs.declared.plan_fault.PlanFault.{PlanFault}
+use Rattle.hk_rules.specs.declared.plan_fault.PlanFault.TheVariants.{BadName, TooManyItems, NotYet}
 
--- what a rule makes of its file
-abbrev pub making_of : Rule → Making
-making_of rule = record { routed = rule.routed; step = rule.step }
+abbrev pub is_bad_name : Bytes × Bytes → Bool
+is_bad_name file = not (is_path file.0)
 
--- what the first rule that names a path makes of it
-abbrev pub making_at : List Rule → Bytes → Option Making
-making_at rules path = option_map making_of (find (λ rule. bytes_eq rule.path path) rules)
+abbrev pub bad_name : Bytes × Bytes → PlanFault
+bad_name file = BadName file.0
 
-abbrev pub item_of : Bytes × Bytes → Making → Item
-item_of file making = record { path = file.0; routed = making.routed; step = making.step; resource = file.1 }
+-- the first file whose path is no identifier's
+abbrev pub name_fault : List (Bytes × Bytes) → Option PlanFault
+name_fault files = option_map bad_name (find is_bad_name files)
 
--- a companion is no item, nor is a file of which nothing is made
-abbrev pub item_by : (Bytes → Option Making) → Bytes × Bytes → Option Item
-item_by makings file = if is_companion file.0 then None else option_map (item_of file) (makings file.0)
+abbrev pub is_built : Step → Bool
+is_built Body = true
+is_built Str = true
+is_built Copy = true
+is_built (Make text) = true
+is_built _ = false
 
-abbrev pub items_by : (Bytes → Option Making) → List (Bytes × Bytes) → List Item
-items_by makings files = filter_map (item_by makings) files
+abbrev pub is_not_yet : Claim → Bool
+is_not_yet item = not (list_all is_built item.1.rule.chain)
 
-abbrev pub item_paths : List Item → List Bytes
-item_paths items = map (λ item. item.path) items
+abbrev pub not_yet : Claim → PlanFault
+not_yet item = NotYet item.0
 
--- whether the companion of the file at a path is among the files
-abbrev pub has_companion : List (Bytes × Bytes) → Bytes → Bool
-has_companion files path = list_any (λ file. bytes_eq file.0 (path ++ companion_ending)) files
+-- the first item that has a step which can't be run yet
+abbrev pub step_fault : List Claim → Option PlanFault
+step_fault items = option_map not_yet (find is_not_yet items)
 
--- an item of which nothing can be made yet
-abbrev pub is_not_yet : (Bytes → Bool) → Item → Bool
-is_not_yet accompanied item = begins_with_fence item.resource || accompanied item.path
+abbrev pub count_fault : List Claim → Option PlanFault
+count_fault items = if nat_lt 65535 (length items) then Some TooManyItems else None
 
-abbrev pub unless : Option Item → List Item → Result (List Item) PlanFault
-unless (Some item) items = Err (NotYet item.path)
-unless None items = Ok items
+abbrev pub plan_by : List ContextView → List Pattern → List Claim → List Split → List (Option Bytes) → PlanView
+plan_by contexts patterns items headers targets =
+    record { items = items; headers = headers; targets = targets; contexts = contexts; patterns = patterns }
 
--- the items, or the first of which nothing can be made yet
-abbrev pub plan_by : (Bytes → Bool) → List Item → Result (List Item) PlanFault
-plan_by accompanied items = unless (find (is_not_yet accompanied) items) items
+-- the plan of items with their headers and targets
+abbrev pub plan_routed : List ContextView → List Pattern → List Claim → List Split → List (Option Bytes) → Result PlanView PlanFault
+plan_routed contexts patterns items headers targets =
+    unless (clash_fault (sites items targets)) (unless (step_fault items) (Ok (plan_by contexts patterns items headers targets)))
 
--- the plan of the files, by the first rule that names each
-unfoldable pub plan_of : List Rule → List (Bytes × Bytes) → Result (List Item) PlanFault
-plan_of rules files = plan_by (has_companion files) (items_by (making_at rules) files)
+abbrev pub plan_headed : List ContextView → List Pattern → List Claim → List Split → Result PlanView PlanFault
+plan_headed contexts patterns items headers = after (each target_of items) (plan_routed contexts patterns items headers)
+
+abbrev pub plan_counted : List ContextView → List Pattern → List Claim → Result PlanView PlanFault
+plan_counted contexts patterns items = after (each header_of items) (plan_headed contexts patterns items)
+
+-- the plan of items
+abbrev pub plan_items : List ContextView → List Pattern → List Claim → Result PlanView PlanFault
+plan_items contexts patterns items = unless (count_fault items) (plan_counted contexts patterns items)
+
+-- the plan that rules make of files, or the first fault
+unfoldable pub plan_of : RulesView → List (Bytes × Bytes) → Result PlanView PlanFault
+plan_of rules files =
+    unless (name_fault files) (plan_items rules.contexts rules.patterns (universe (sources files) rules.rules))

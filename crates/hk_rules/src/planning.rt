@@ -1,138 +1,180 @@
 // The plan that rules make of the files of a folder.
-ghost use Rattle.std.specs.Prelude.{◌≡◌, ◌||◌, ◌++◌, IsTrue, IfOk, option_map, bytes_eq, take, length, ◌-◌, if◌then◌else◌};
-ghost use Rattle.std.specs.List.{find, list_any};
+ghost use Rattle.std.specs.Prelude.{◌≡◌, ◌≤◌, length};
+ghost use Rattle.std.specs.List.{find, list_all};
+ghost use Rattle.std.specs.List.Sorted.{IsStrictlySortedBy};
+ghost use Rattle.std.specs.Map.{keys_of};
 ghost use Rattle.std.specs.Option.{option_copied};
-ghost use Rattle.std.specs.Ordering.{nat_cmp};
-ghost use Rattle.std.specs.Cmp.Lexicographic.{slice_cmp};
-ghost use Rattle.std.specs.BTreeMap.{get};
-ghost use Rattle.std.specs.BTreeSet.{contains};
 ghost use Rattle.hk_base.specs.Answers.{Answers};
-ghost use Rattle.hk_base.specs.Bytes.{Bytes, ascends, paths_of};
+ghost use Rattle.hk_base.specs.Identifier.{ident_cmp};
+ghost use Rattle.hk_rules.specs.Outcomes.{Passes};
 ghost use Rattle.hk_rules.specs.Planning as spec;
-ghost use Rattle.hk_rules.specs.Resource as resource;
 
-use crate::fault::PlanFault;
-use crate::fence::begins_with_fence;
-use crate::item::Item;
-use crate::making::Making;
+use crate::clashes::check_targets;
+use crate::headers::headers_of;
+use crate::owner::Owner;
 use crate::plan::Plan;
-use crate::resource::is_companion;
-use crate::rule::{Rule, Rules};
-use hk_base::{NoMemory, Refusal, Text};
+use crate::plan_fault::PlanFault;
+use crate::rules::Rules;
+use crate::sources::sources_of;
+use crate::targets::targets_of;
+use crate::universe::{MOST_ITEMS, universe};
+use hk_base::{Identifier, Refusal, Text, is_path};
+use hk_chain::{Context, Step};
+use hk_meta::Split;
+use hk_pattern::Pattern;
 use std::alloc::Global;
-use std::collections::{BTreeMap, BTreeSet};
 
-/// One item for each file that a rule names, in the order of the paths, by the first rule that names it; a companion has
-/// none. `NotYet` comes with the first item, in that order, that begins with a fence or has a companion beside it.
+/// What rules and contexts name by number.
+#[derive(Drop)]
+struct Named {
+    contexts: Vec<Context>,
+    patterns: Vec<Pattern>,
+}
+
+/// The plan that rules make of the files of a folder, which are to be in path order and none of them ignored.
 ///
-/// The paths must strictly ascend. The texts of the files are moved. The rules are put into a map by path and the
-/// companions into a set, so that there is one look-up for each file and each item: `n log n` comparisons of paths.
+/// A file whose path ends in `.metadata` goes with another one; every other file is a resource. A `match` rule claims
+/// each resource whose path its pattern matches, tested without a version, and a `create` rule its paths, each in the
+/// rule's version; the first rule that claims an identifier owns it. A claim whose path and version are no identifier
+/// counts for nothing.
+///
+/// The faults are tested in this order: `BadName` with the first file whose path is no identifier's; `TooManyItems` for
+/// more than 65,535 items; `BadHeader` with the first item whose header, or else companion, is refused; `BadTarget` with
+/// the first item whose route gives a bad path; `SameTarget` with the least target of two items, and the two least;
+/// `NestedTarget` with the least target that lies above another, and the least below it; `NotYet` with the first item
+/// that has another step than `body`, `string`, `copy` and `make`.
+///
+/// Each pattern is tested once on each path; then `n log n`.
 pub fn make_plan(
     alloc: Global,
     rules: Rules,
     files: Vec<(Text, Text)>,
 ) -> Result<Plan, Refusal<PlanFault>>
-    requires { IsTrue (ascends (paths_of files.items)) }
     ensures plan { Answers (spec.plan_of rules files.items) result }
-    ensures ascending { IfOk result (λ plan. IsTrue (ascends (spec.item_paths plan))) }
 {
-    let makings = first_makings(alloc, rules)?;
-    let companions = companions_in(alloc, &files)?;
-    let items = items_of(alloc, &makings, files)?;
-    plan_by(alloc, items, &companions)
+    check_names(alloc, &files)?;
+    let sources = sources_of(alloc, files)?;
+    let Rules {
+        rules,
+        contexts,
+        patterns,
+    } = rules;
+    let items = universe(alloc, rules, &sources)?;
+    plan_items(alloc, Named { contexts, patterns }, items)
 }
 
-/// What the first rule of each path says, by path.
-fn first_makings(alloc: Global, rules: Rules) -> Result<BTreeMap<Text, Making>, NoMemory>
-    ensures { IfOk result (λ m. (path : Bytes) → get (slice_cmp nat_cmp) m path ≡ spec.making_at rules path) }
-{
-    let mut left = rules.list;
-    let mut makings = BTreeMap::new(alloc);
-    while let Some(rule) = left.pop() {
-        let Rule { path, routed, step } = rule;
-        makings.insert(path, Making { routed, step })?;
-    }
-    Ok(makings)
-}
-
-/// The paths of which there is a companion.
-fn companions_in(alloc: Global, files: &[(Text, Text)]) -> Result<BTreeSet<Text>, NoMemory>
-    ensures { IfOk result (λ s. (path : Bytes) → contains (slice_cmp nat_cmp) s path ≡ spec.has_companion files.now path) }
-{
-    let mut companions = BTreeSet::new(alloc);
-    for file in files {
-        let path = file.0.as_slice();
-        if is_companion(path) {
-            companions.insert(accompanied(alloc, path)?)?;
-        }
-    }
-    Ok(companions)
-}
-
-/// The path of the file that a companion goes with.
-fn accompanied(alloc: Global, path: &[u8]) -> Result<Text, NoMemory>
-    requires { IsTrue (resource.is_companion path.now) }
-    ensures { IfOk result (λ t. t ≡ take (length path.now - 9) path.now) }
-{
-    Text::from_slice(alloc, &path[..path.len() - b".metadata".len()])
-}
-
-fn items_of(
+fn plan_items(
     alloc: Global,
-    makings: &BTreeMap<Text, Making>,
-    files: Vec<(Text, Text)>,
-) -> Result<Vec<Item>, NoMemory>
-    ensures { IfOk result (λ v. v.items ≡ spec.items_by (get (slice_cmp nat_cmp) makings.now) files.items) }
-{
-    let mut items = Vec::new(alloc);
-    for (path, resource) in files {
-        if let Some(making) = making_of(makings, &path) {
-            items.push(Item {
-                path,
-                routed: making.routed,
-                step: making.step,
-                resource,
-            })?;
-        }
-    }
-    Ok(items)
-}
-
-/// What becomes of the file at a path.
-fn making_of(makings: &BTreeMap<Text, Making>, path: &Text) -> Option<Making>
-    ensures { result ≡ (if resource.is_companion path.now then None else get (slice_cmp nat_cmp) makings.now path.now) }
-{
-    if is_companion(path.as_slice()) {
-        None
-    } else {
-        makings.get(path).copied()
-    }
-}
-
-fn plan_by(
-    alloc: Global,
-    items: Vec<Item>,
-    companions: &BTreeSet<Text>,
+    named: Named,
+    items: Vec<(Identifier, Owner)>,
 ) -> Result<Plan, Refusal<PlanFault>>
-    ensures plan { Answers (spec.plan_by (contains (slice_cmp nat_cmp) companions.now) items.items) result }
-    ensures items { IfOk result (λ plan. plan ≡ items.items) }
+    requires { IsStrictlySortedBy ident_cmp (keys_of items.items) }
+    ensures { Answers (spec.plan_items named.contexts.items named.patterns.items items.items) result }
 {
-    match first_not_yet(&items, companions) {
-        None => Ok(Plan::of_items(items)),
-        Some(item) => Err(Refusal::Fault(PlanFault::NotYet {
-            path: Text::from_slice(alloc, item.path.as_slice())?,
+    check_count(&items)?;
+    let headers = headers_of(alloc, &items)?;
+    plan_headed(alloc, named, items, headers)
+}
+
+fn plan_headed(
+    alloc: Global,
+    named: Named,
+    items: Vec<(Identifier, Owner)>,
+    headers: Vec<Split>,
+) -> Result<Plan, Refusal<PlanFault>>
+    requires sorted { IsStrictlySortedBy ident_cmp (keys_of items.items) }
+    requires few { length items.items ≤ 65535 }
+    requires headed { length headers.items ≡ length items.items }
+    ensures { Answers (spec.plan_headed named.contexts.items named.patterns.items items.items headers.items) result }
+{
+    let targets = targets_of(alloc, &items)?;
+    plan_routed(alloc, named, items, headers, targets)
+}
+
+fn plan_routed(
+    alloc: Global,
+    named: Named,
+    items: Vec<(Identifier, Owner)>,
+    headers: Vec<Split>,
+    targets: Vec<Option<Text>>,
+) -> Result<Plan, Refusal<PlanFault>>
+    requires sorted { IsStrictlySortedBy ident_cmp (keys_of items.items) }
+    requires few { length items.items ≤ 65535 }
+    requires headed { length headers.items ≡ length items.items }
+    requires routed { length targets.items ≡ length items.items }
+    ensures { Answers (spec.plan_routed named.contexts.items named.patterns.items items.items headers.items targets.items) result }
+{
+    check_targets(alloc, &items, &targets)?;
+    check_steps(alloc, &items)?;
+    let Named { contexts, patterns } = named;
+    let plan = Plan::of_parts(alloc, items, headers, targets, contexts, patterns)?;
+    Ok(plan)
+}
+
+fn check_names(alloc: Global, files: &[(Text, Text)]) -> Result<(), Refusal<PlanFault>>
+    ensures { Passes (spec.name_fault files.now) result }
+{
+    match first_bad_name(files) {
+        None => Ok(()),
+        Some(file) => Err(Refusal::Fault(PlanFault::BadName {
+            path: Text::from_slice(alloc, file.0.as_slice())?,
         })),
     }
 }
 
-fn first_not_yet<'a>(items: &'a [Item], companions: &BTreeSet<Text>) -> Option<&'a Item>
-    ensures { option_copied result ≡ find (spec.is_not_yet (contains (slice_cmp nat_cmp) companions.now)) items.now }
+fn first_bad_name(files: &[(Text, Text)]) -> Option<&(Text, Text)>
+    ensures { option_copied result ≡ find spec.is_bad_name files.now }
 {
-    items.iter().find(|item| is_not_yet(item, companions))
+    files.iter().find(|file| is_bad_name(file))
 }
 
-fn is_not_yet(item: &Item, companions: &BTreeSet<Text>) -> bool
-    ensures { result ≡ spec.is_not_yet (contains (slice_cmp nat_cmp) companions.now) item.now }
+fn is_bad_name(file: &(Text, Text)) -> bool
+    ensures { result ≡ spec.is_bad_name file.now }
 {
-    begins_with_fence(item.resource.as_slice()) || companions.contains(&item.path)
+    !is_path(file.0.as_slice())
+}
+
+fn check_count(items: &[(Identifier, Owner)]) -> Result<(), Refusal<PlanFault>>
+    ensures { Passes (spec.count_fault items.now) result }
+{
+    if items.len() > MOST_ITEMS {
+        Err(Refusal::Fault(PlanFault::TooManyItems))
+    } else {
+        Ok(())
+    }
+}
+
+fn check_steps(alloc: Global, items: &[(Identifier, Owner)]) -> Result<(), Refusal<PlanFault>>
+    ensures { Passes (spec.step_fault items.now) result }
+{
+    match first_not_yet(items) {
+        None => Ok(()),
+        Some(item) => Err(Refusal::Fault(PlanFault::NotYet {
+            id: item.0.copy(alloc)?,
+        })),
+    }
+}
+
+fn first_not_yet(items: &[(Identifier, Owner)]) -> Option<&(Identifier, Owner)>
+    ensures { option_copied result ≡ find spec.is_not_yet items.now }
+{
+    items.iter().find(|item| is_not_yet(item))
+}
+
+fn is_not_yet(item: &(Identifier, Owner)) -> bool
+    ensures { result ≡ spec.is_not_yet item.now }
+{
+    !are_built(&item.1.rule.get().chain.steps)
+}
+
+fn are_built(steps: &[Step]) -> bool
+    ensures { result ≡ list_all spec.is_built steps.now }
+{
+    steps.iter().all(is_built)
+}
+
+fn is_built(step: &Step) -> bool
+    ensures { result ≡ spec.is_built step.now }
+{
+    matches!(step, Step::Body | Step::Str | Step::Copy | Step::Make(_))
 }

@@ -1,18 +1,22 @@
 // Reading of the rules file.
-ghost use Rattle.std.specs.Prelude.{◌≡◌, ◌≤◌, length, is_some, option_map, string_bytes, bytes_eq, codes};
-ghost use Rattle.std.specs.List.{list_all};
-ghost use Rattle.std.specs.BTreeMap.{keys};
-ghost use Rattle.toml.specs.Data.{as_table};
+ghost use Rattle.std.specs.Prelude.{◌≡◌, ◌≤◌, length, nat_lt, IfOk, option_map};
+ghost use Rattle.toml.specs.Data.{no_members};
 ghost use Rattle.toml.specs.View.{view, table_view, items_view};
 ghost use Rattle.hk_base.specs.Answers.{Answers};
-ghost use Rattle.hk_rules.specs.Form as spec;
-ghost use Rattle.hk_base.specs.declared.refusal.Refusal.TheVariants.{Fault};
-ghost use Rattle.hk_rules.specs.declared.fault.RulesFault.TheVariants.{NotYet};
+ghost use Rattle.hk_rules.specs.Members as members;
+ghost use Rattle.hk_rules.specs.ContextForm as context_form;
+ghost use Rattle.hk_rules.specs.RuleForm as rule_form;
+ghost use Rattle.hk_rules.specs.RulesForm as spec;
 
+use crate::context_form::{contexts_in, names_of};
+use crate::draft::Drafts;
 use crate::fault::RulesFault;
-use crate::form::{rule_of, value_at};
-use crate::rule::Rules;
-use hk_base::Refusal;
+use crate::members::{items_in, table_in, value_at};
+use crate::numbering::{Names, Pool};
+use crate::rule_form::rules_from;
+use crate::rules::{Rule, Rules};
+use hk_base::{NoMemory, Refusal, Text};
+use hk_chain::Context;
 use std::alloc::Global;
 use toml::{Table, Value};
 
@@ -22,14 +26,23 @@ const MOST_BYTES: usize = 1_048_576;
 /// The most rules that a file may have.
 const MOST_RULES: usize = 1024;
 
-/// Reads the rules that a file has. A top table without the key `rule` has none. The faults are tested in this order:
-/// `TooLong` for more than 1,048,576 bytes; `NotToml` for bytes that are no TOML; `NotYet` with the number 0 where the
-/// top table has another key than `rule`, or `rule` is no array of tables; `TooManyRules` for more than 1,024; `NotYet`
-/// with the number of the first rule, from 1, that isn't of the form.
+/// Reads the rules that a file has. A top table without the keys `rule` and `context` has none, and the context that is
+/// built in. The faults are tested in this order, and the first counts:
 ///
-/// A rule has the keys `match`, `compile` and, if it likes, `route`, and no other. `match` is the path of a file,
-/// without `*` and `\`; `route` is `"id"`; `compile` is an array of one of the words `body`, `string` and `copy`.
-/// Linear in the bytes.
+/// - `TooLong` for more than 1,048,576 bytes;
+/// - `NotToml` for bytes that are no TOML;
+/// - `BadRule` with the number 0: the least other key of the top table, or else `context` where that is no table of
+///   tables, or else `rule` where that is no array of tables;
+/// - `TooManyRules` for more than 1,024;
+/// - `BadContext` for the first context, in the byte order of the names, that is the 257th, is named `default`, has a
+///   bad name or another key than `fields`, or whose fields aren't of their form or name a context that there is not;
+/// - then for each rule in order `BadRule` with its number, from 1, and its least other key, or else the first of the
+///   keys `match`, `create`, `version`, `route` and `compile` whose value isn't of its form; and for each step in order
+///   `DoubleSnapshot` for a name that an earlier step saves under, or `UnknownContext` for a name that no context has.
+///
+/// Contexts are numbered in the byte order of their names, the one that is built in at its place, and patterns in the
+/// order of their first use, the contexts before the rules. Linear in the bytes, but for `n log n` comparisons of names
+/// and of patterns' texts.
 pub fn read_rules(alloc: Global, bytes: &[u8]) -> Result<Rules, Refusal<RulesFault>>
     ensures { Answers (spec.rules_of bytes.now) result }
 {
@@ -55,66 +68,156 @@ fn rules_of_bytes(alloc: Global, bytes: &[u8]) -> Result<Rules, Refusal<RulesFau
 fn rules_of_table(alloc: Global, table: &Table) -> Result<Rules, Refusal<RulesFault>>
     ensures { Answers (spec.rules_of_table (table_view table.now)) result }
 {
-    rules_by(alloc, has_rule_alone(table), value_at(table, "rule"))
+    let other = other_top_key(alloc, table)?;
+    let empty = Table::new(alloc);
+    let contexts = contexts_at(&empty, value_at(table, "context"));
+    let rules = rules_at(value_at(table, "rule"));
+    top_by(alloc, other, contexts, rules)
 }
 
-fn has_rule_alone(table: &Table) -> bool
-    ensures { result ≡ list_all (λ k. bytes_eq (string_bytes k) (codes "rule")) (keys table.now) }
+fn other_top_key(alloc: Global, table: &Table) -> Result<Option<Text>, NoMemory>
+    ensures { IfOk result (λ o. o ≡ rule_form.first_other spec.is_top_key (table_view table.now)) }
 {
-    table.keys().all(|key| key.as_str() == "rule")
-}
-
-fn rules_by(alloc: Global, alone: bool, value: Option<&Value>) -> Result<Rules, Refusal<RulesFault>>
-    ensures { Answers (spec.rules_by alone (option_map (λ v. view v.now) value.entry)) result }
-{
-    if !alone {
-        return Err(not_yet(0));
+    for (key, _value) in table.iter() {
+        let key = key.as_str();
+        if !is_top_key(key) {
+            return Ok(Some(Text::from_slice(alloc, key.as_bytes())?));
+        }
     }
+    Ok(None)
+}
+
+#[tactic(auto, unfolding(crate::specs::RulesForm::is_top_key))]
+fn is_top_key(key: &str) -> bool
+    ensures { result ≡ spec.is_top_key key.now }
+{
+    key == "rule" || key == "context"
+}
+
+/// The table of the contexts, by the value at its key, and an empty one where there is none.
+fn contexts_at<'a>(empty: &'a Table, value: Option<&'a Value>) -> Option<&'a Table>
+    requires { table_view empty.now ≡ no_members }
+    ensures { option_map (λ m. table_view m.now) result ≡ spec.contexts_at (option_map (λ v. view v.now) value.entry) }
+{
     match value {
-        None => Ok(Rules {
-            list: Vec::new(alloc),
-        }),
-        Some(value) => match value.as_array() {
-            Some(items) => rules_in(alloc, items.as_slice()),
-            None => Err(not_yet(0)),
-        },
+        Some(value) => table_of_tables(table_in(value)),
+        None => Some(empty),
     }
 }
 
-fn rules_in(alloc: Global, items: &[Value]) -> Result<Rules, Refusal<RulesFault>>
-    ensures { Answers (spec.rules_in (items_view items.now)) result }
+fn table_of_tables(table: Option<&Table>) -> Option<&Table>
+    ensures { option_map (λ m. table_view m.now) result ≡ spec.table_of_tables (option_map (λ m. table_view m.now) table.entry) }
 {
-    if !are_tables(items) {
-        return Err(not_yet(0));
+    match table {
+        Some(table) if holds_tables(table) => Some(table),
+        _ => None,
     }
-    if items.len() > MOST_RULES {
-        return Err(Refusal::Fault(RulesFault::TooManyRules));
+}
+
+fn holds_tables(table: &Table) -> bool
+    ensures { result ≡ spec.hold_tables (table_view table.now) }
+{
+    for (_key, value) in table.iter() {
+        if !value.is_table() {
+            return false;
+        }
     }
-    rules_from(alloc, items)
+    true
+}
+
+/// The array of the rules, by the value at its key, and an empty one where there is none.
+fn rules_at(value: Option<&Value>) -> Option<&[Value]>
+    ensures { option_map (λ s. items_view s.now) result ≡ spec.rules_at (option_map (λ v. view v.now) value.entry) }
+{
+    match value {
+        Some(value) => array_of_tables(items_in(value)),
+        None => Some(&[]),
+    }
+}
+
+fn array_of_tables(items: Option<&[Value]>) -> Option<&[Value]>
+    ensures { option_map (λ s. items_view s.now) result ≡ spec.array_of_tables (option_map (λ s. items_view s.now) items.entry) }
+{
+    match items {
+        Some(items) if are_tables(items) => Some(items),
+        _ => None,
+    }
 }
 
 fn are_tables(items: &[Value]) -> bool
-    ensures { result ≡ list_all (λ v. is_some (as_table (view v))) items.now }
+    ensures { result ≡ spec.are_tables (items_view items.now) }
 {
-    items.iter().all(|item| item.is_table())
-}
-
-fn rules_from(alloc: Global, items: &[Value]) -> Result<Rules, Refusal<RulesFault>>
-    requires { length items.now ≤ 1024 }
-    ensures { Answers (spec.rules_from 1 (items_view items.now)) result }
-{
-    let mut list = Vec::new(alloc);
-    for (index, item) in items.iter().enumerate() {
-        match rule_of(alloc, item)? {
-            Some(rule) => list.push(rule)?,
-            None => return Err(not_yet(index as u32 + 1)),
+    for item in items {
+        if !item.is_table() {
+            return false;
         }
     }
-    Ok(Rules { list })
+    true
 }
 
-fn not_yet(number: u32) -> Refusal<RulesFault>
-    ensures { result ≡ Fault (NotYet number) }
+fn top_by(
+    alloc: Global,
+    other: Option<Text>,
+    contexts: Option<&Table>,
+    rules: Option<&[Value]>,
+) -> Result<Rules, Refusal<RulesFault>>
+    ensures { Answers (spec.top_by other (option_map (λ m. table_view m.now) contexts.entry) (option_map (λ s. items_view s.now) rules.entry)) result }
 {
-    Refusal::Fault(RulesFault::NotYet { number })
+    if let Some(word) = other {
+        return Err(Refusal::Fault(RulesFault::BadRule { number: 0, word }));
+    }
+    let Some(contexts) = contexts else {
+        let word = Text::from_slice(alloc, b"context")?;
+        return Err(Refusal::Fault(RulesFault::BadRule { number: 0, word }));
+    };
+    let Some(rules) = rules else {
+        let word = Text::from_slice(alloc, b"rule")?;
+        return Err(Refusal::Fault(RulesFault::BadRule { number: 0, word }));
+    };
+    unless_many(alloc, contexts, rules)
+}
+
+fn unless_many(
+    alloc: Global,
+    contexts: &Table,
+    rules: &[Value],
+) -> Result<Rules, Refusal<RulesFault>>
+    ensures { Answers (spec.unless_many (nat_lt spec.most_rules (members.count_items (items_view rules.now))) (table_view contexts.now) (items_view rules.now)) result }
+{
+    if rules.len() > MOST_RULES {
+        return Err(Refusal::Fault(RulesFault::TooManyRules));
+    }
+    parts_in(alloc, contexts, rules)
+}
+
+fn parts_in(alloc: Global, contexts: &Table, rules: &[Value]) -> Result<Rules, Refusal<RulesFault>>
+    requires { length rules.now ≤ 1024 }
+    ensures { Answers (spec.parts_in (table_view contexts.now) (items_view rules.now)) result }
+{
+    let names = names_of(alloc, contexts)?;
+    parts_with(alloc, &names, contexts, rules)
+}
+
+fn parts_with(
+    alloc: Global,
+    names: &Names,
+    contexts: &Table,
+    rules: &[Value],
+) -> Result<Rules, Refusal<RulesFault>>
+    requires { length rules.now ≤ 1024 }
+    ensures { Answers (spec.after_contexts names.now (items_view rules.now) (context_form.contexts_in names.now (table_view contexts.now))) result }
+{
+    let (contexts, pool) = contexts_in(alloc, names, contexts)?;
+    let (rules, pool) = rules_from(alloc, names, pool, rules)?;
+    Ok(whole(rules, contexts, pool))
+}
+
+fn whole(rules: Drafts<Rule>, contexts: Drafts<Context>, pool: Pool) -> Rules
+    ensures { result ≡ record { rules = rules; contexts = contexts; patterns = pool } }
+{
+    Rules {
+        rules: rules.into_vec(),
+        contexts: contexts.into_vec(),
+        patterns: pool.into_patterns(),
+    }
 }

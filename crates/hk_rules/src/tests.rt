@@ -1,100 +1,272 @@
-// What the rules of a file are read as, and the plan that they make.
-use crate::{Item, PlanFault, RulesFault, Step, is_companion, is_ignored, make_plan, read_rules};
+// What rules files are read as, and how they are refused.
+use crate::{Rules, RulesFault, is_companion, is_ignored, read_rules};
 use hk_base::{Refusal, Text};
+use hk_chain::{Field, Order, Step};
 use std::alloc::{AllocError, Global};
 use std::test::Fail;
 
-/// The first rule copies the file, and a later one would not.
-const TWICE: &str =
-    "[[rule]]\nmatch = \"a\"\nroute = \"id\"\ncompile = [\"copy\"]\n[[rule]]\nmatch = \"a\"\ncompile = [\"body\"]\n";
+/// The rules of a blog.
+const BLOG: &str = r#"
+[[rule]]
+match = "images/*"
+route = "id"
+compile = ["copy"]
+[[rule]]
+match = "css/*"
+route = "id"
+compile = ["string"]
+[[rule]]
+match = "about.md"
+route = { extension = "html" }
+compile = ["body", { apply = "templates/default.html" }, "relativize"]
+[[rule]]
+match = "posts/*"
+route = { extension = "html" }
+compile = ["body", { save = "content" }, { apply = "templates/post.html", context = "post" }, { apply = "templates/default.html", context = "post" }, "relativize"]
+[[rule]]
+create = ["archive.html"]
+route = "id"
+compile = [{ make = "" }, { apply = "templates/archive.html", context = "archive" }, { apply = "templates/default.html", context = "archive" }, "relativize"]
+[[rule]]
+match = "index.html"
+route = "id"
+compile = ["body", { self = "index" }, { apply = "templates/default.html", context = "index" }, "relativize"]
+[[rule]]
+match = "templates/*"
+compile = ["template"]
+[context.post]
+fields = [{ date = ["date", "%B %e, %Y"] }, "default"]
+[context.archive]
+fields = [{ list = "posts", of = "posts/*", order = "recent", context = "post" }, { const = ["title", "Archives"] }, "default"]
+[context.index]
+fields = [{ list = "posts", of = "posts/*", order = "recent", limit = 2, snapshot = "content", context = "teaser" }, "default"]
+[context.teaser]
+fields = [{ teaser = ["teaser", "content"] }, { date = ["date", "%B %e, %Y"] }, "default"]
+"#;
 
-fn refusal_of(alloc: Global, text: &str) -> Option<Refusal<RulesFault>> {
-    read_rules(alloc, text.as_bytes()).err()
-}
+/// Patterns that are named more than once.
+const SHARED: &str = r#"
+[[rule]]
+create = ["all"]
+compile = [{ concat = "a" }, { concat = { not = "a" } }, { concat = { glob = "a" } }, { concat = { not = "a" } }]
+"#;
 
-#[test]
-fn refuses_other_forms(rt: HostRuntime) {
-    let cases = [
-        ("x = 1", 0),
-        ("rule = 1", 0),
-        ("rule = [1]", 0),
-        ("[[rule]]\nmatch = \"*\"\ncompile = [\"copy\"]", 1),
-        ("[[rule]]\nmatch = \"a//b\"\ncompile = [\"copy\"]", 1),
-        ("[[rule]]\nmatch = \"a\"\ncompile = [\"copy\", \"copy\"]", 1),
-        (
-            "[[rule]]\nmatch = \"a\"\ncompile = [\"copy\"]\nroute = \"x\"",
-            1,
-        ),
-        (
-            "[[rule]]\nmatch = \"a\"\ncompile = [\"body\"]\n[[rule]]\nmatch = \"a\"\ncompile = [\"template\"]",
-            2,
-        ),
-    ];
-    for (text, number) in cases {
-        let refusal = refusal_of(rt.alloc(), text);
-        assert!(rt;
-            refusal == Some(Refusal::Fault(RulesFault::NotYet { number })),
-            "at {text}"
-        );
+/// A fault as it is printed.
+fn line(alloc: Global, fault: &RulesFault) -> Result<String, AllocError> {
+    match fault {
+        RulesFault::TooLong => format!(in alloc; "too long"),
+        RulesFault::NotToml => format!(in alloc; "not TOML"),
+        RulesFault::BadRule { number, word } => numbered(alloc, *number, "", word, ""),
+        RulesFault::TooManyRules => format!(in alloc; "too many rules"),
+        RulesFault::BadContext { name } => {
+            let name = shown(name);
+            format!(in alloc; "context {name}")
+        }
+        RulesFault::DoubleSnapshot { number, name } => {
+            numbered(alloc, *number, "snapshot ", name, " twice")
+        }
+        RulesFault::UnknownContext { number, name } => {
+            numbered(alloc, *number, "unknown context ", name, "")
+        }
     }
-    let refusal = refusal_of(rt.alloc(), "x");
-    assert!(rt; refusal == Some(Refusal::Fault(RulesFault::NotToml)));
 }
 
-#[test]
-fn refuses_what_is_too_much(rt: HostRuntime) -> Result<(), Fail> {
-    let alloc = rt.alloc();
-    let mut bytes = vec![in alloc; b'\n'; 1_048_576]?;
-    assert!(rt; read_rules(alloc, &bytes).is_ok());
-    bytes.push(b'\n')?;
-    assert!(rt; read_rules(alloc, &bytes).err() == Some(Refusal::Fault(RulesFault::TooLong)));
-    let mut text = String::new(alloc);
-    for _ in 0..1024 {
-        text.push_str("[[rule]]\n")?;
-    }
-    assert!(rt;
-        refusal_of(alloc, text.as_str()) == Some(Refusal::Fault(RulesFault::NotYet { number: 1 }))
-    );
-    text.push_str("[[rule]]\n")?;
-    assert!(rt; refusal_of(alloc, text.as_str()) == Some(Refusal::Fault(RulesFault::TooManyRules)));
-    Ok(())
-}
-
-/// A text of these bytes.
-fn text(alloc: Global, bytes: &[u8]) -> Result<Text, AllocError> {
-    Ok(Text::from_vec(Vec::from_slice(alloc, bytes)?))
-}
-
-/// How the plan of one file, by the rules above, was refused, or its one item.
-fn plan_of_one(
+fn numbered(
     alloc: Global,
-    path: &[u8],
-    bytes: &[u8],
-) -> Result<Option<Item>, Refusal<PlanFault>> {
-    let Ok(rules) = read_rules(alloc, TWICE.as_bytes()) else {
-        return Ok(None);
-    };
-    let mut files = Vec::new(alloc);
-    files.push((text(alloc, path)?, text(alloc, bytes)?))?;
-    let plan = make_plan(alloc, rules, files)?;
-    Ok(plan.into_items().pop())
+    number: u32,
+    before: &str,
+    word: &Text,
+    after: &str,
+) -> Result<String, AllocError> {
+    let word = shown(word);
+    format!(in alloc; "rule {number}: {before}{word}{after}")
+}
+
+fn shown(text: &Text) -> &str {
+    match str::from_utf8(text.as_slice()) {
+        Ok(text) => text,
+        Err(_) => "?",
+    }
+}
+
+/// Files with the first refusal of each.
+const REFUSED: [(&str, &str); 18] = [
+    ("[[rule]\n", "not TOML"),
+    ("x = 1\nrule = 1", "rule 0: x"),
+    ("rule = 1\ncontext = 1", "rule 0: context"),
+    ("[context]\na = 1", "rule 0: context"),
+    ("rule = [1]", "rule 0: rule"),
+    ("[[rule]]\ncompile = [\"copy\"]", "rule 1: match"),
+    ("[[rule]]\nmatch = \"a\"\ncreate = []", "rule 1: create"),
+    ("[[rule]]\nmatch = 1\ncreate = 1", "rule 1: match"),
+    ("[[rule]]\nmatch = \"a\"\nz = 1\ny = 1", "rule 1: y"),
+    (
+        "[[rule]]\nmatch = \"a\"\nversion = \"\"\nroute = 1",
+        "rule 1: version",
+    ),
+    (
+        "[[rule]]\nmatch = \"a\"\nroute = { extension = \".\" }",
+        "rule 1: route",
+    ),
+    ("[[rule]]\nmatch = \"a\"", "rule 1: compile"),
+    (
+        "[[rule]]\ncreate = [\"a\"]\ncompile = [\"copy\"]",
+        "rule 1: compile",
+    ),
+    (
+        "[[rule]]\nmatch = \"a\"\ncompile = [{ apply = \"t\", context = \"zz\" }]",
+        "rule 1: unknown context zz",
+    ),
+    (
+        "[[rule]]\nmatch = \"a\"\ncompile = [{ save = \"s\" }, { save = \"s\" }, { self = \"zz\" }]",
+        "rule 1: snapshot s twice",
+    ),
+    (
+        "[context.default]\nfields = []\n[context.a]\nfields = []",
+        "context default",
+    ),
+    (
+        "[context.a]\nfields = [{ list = \"k\", of = \"*\", context = \"zz\" }]",
+        "context a",
+    ),
+    (
+        "[context.a]\nfields = [{ list = \"k\", of = \"*\", context = \"a\", limit = 0 }]",
+        "context a",
+    ),
+];
+
+/// How a file is refused, or the word `ok`.
+fn said(alloc: Global, text: &str) -> Result<String, AllocError> {
+    match read_rules(alloc, text.as_bytes()) {
+        Ok(_) => format!(in alloc; "ok"),
+        Err(Refusal::Fault(fault)) => line(alloc, &fault),
+        Err(Refusal::NoMemory) => Err(AllocError),
+    }
 }
 
 #[test]
-fn plans_files(rt: HostRuntime) -> Result<(), Fail> {
+fn refuses_in_order(rt: HostRuntime) -> Result<(), Fail> {
     let alloc = rt.alloc();
-    let item = plan_of_one(alloc, b"a", b"--- x\n---\n")
-        .ok()
-        .flatten()
-        .ok_or("no item")?;
-    assert!(rt; item.path == text(alloc, b"a")?);
-    assert!(rt; item.routed && item.step == Step::Copy);
-    assert!(rt; item.resource == text(alloc, b"--- x\n---\n")?);
-    let other = plan_of_one(alloc, b"b", b"");
-    assert!(rt; matches!(other, Ok(None)));
-    let header = plan_of_one(alloc, b"a", b"--- \t\r\n---\nx");
-    assert!(rt; matches!(header, Err(Refusal::Fault(PlanFault::NotYet { .. }))));
+    for (text, wanted) in &REFUSED {
+        let line = said(alloc, *text)?;
+        assert!(rt; line.as_str() == *wanted, "at {text}: {line}");
+    }
     Ok(())
+}
+
+/// A text that repeats a part between two others.
+fn repeated(
+    alloc: Global,
+    before: &str,
+    part: &str,
+    count: usize,
+    after: &str,
+) -> Result<String, AllocError> {
+    let mut text = String::from_str(alloc, before)?;
+    for _ in 0..count {
+        text.push_str(part)?;
+    }
+    text.push_str(after)?;
+    Ok(text)
+}
+
+#[test]
+fn counts_to_its_limits(rt: HostRuntime) -> Result<(), Fail> {
+    let alloc = rt.alloc();
+    let steps = "[[rule]]\nmatch = \"a\"\ncompile = [";
+    let deep = "[[rule]]\ncompile = [\"copy\"]\nmatch = ";
+    let glob = "[[rule]]\ncompile = [\"copy\"]\nmatch = \"";
+    let fields = "[context.a]\nfields = [\"default\", ";
+    let cases = [
+        (steps, "\"body\",", 64, "]", "ok"),
+        (steps, "\"body\",", 65, "]", "rule 1: compile"),
+        (
+            steps,
+            "{ save = \"s\" },",
+            16,
+            "]",
+            "rule 1: snapshot s twice",
+        ),
+        (steps, "{ save = \"s\" },", 17, "]", "rule 1: compile"),
+        (glob, "a", 1024, "\"", "ok"),
+        (glob, "a", 1025, "\"", "rule 1: match"),
+        (fields, "\"body\",", 59, "]", "ok"),
+        (fields, "\"body\",", 60, "]", "context a"),
+        ("", "[[rule]]\n", 1024, "", "rule 1: match"),
+        ("", "[[rule]]\n", 1025, "", "too many rules"),
+        ("", "\n", 1_048_576, "", "ok"),
+        ("", "\n", 1_048_577, "", "too long"),
+    ];
+    for (before, part, count, after, wanted) in cases {
+        let text = repeated(alloc, before, part, count, after)?;
+        let line = said(alloc, text.as_str())?;
+        assert!(rt; line.as_str() == wanted, "at {count} of {part}: {line}");
+    }
+    for (count, wanted) in [(15, "ok"), (16, "rule 1: match")] {
+        let opened = repeated(alloc, deep, "{ not = ", count, "\"a\"")?;
+        let text = repeated(alloc, opened.as_str(), "}", count, "")?;
+        let line = said(alloc, text.as_str())?;
+        assert!(rt; line.as_str() == wanted, "at {count} deep: {line}");
+    }
+    Ok(())
+}
+
+#[test]
+fn reads_a_blog(rt: HostRuntime) -> Result<(), Fail> {
+    let Rules {
+        rules,
+        contexts,
+        patterns,
+    } = read_rules(rt.alloc(), BLOG.as_bytes())
+        .ok()
+        .ok_or("refused")?;
+    assert_eq!(rt; rules.len(), 7);
+    assert_eq!(rt; patterns.len(), 1);
+    let names = ["archive", "default", "index", "post", "teaser"];
+    assert_eq!(rt; contexts.len(), names.len());
+    for (context, name) in contexts.iter().zip(&names) {
+        assert!(rt; shown(&context.name) == *name, "at {name}");
+    }
+    let list = contexts[2].fields.first().ok_or("no field")?;
+    let Field::List {
+        key,
+        of,
+        snapshot,
+        order,
+        limit,
+        context,
+    } = list
+    else {
+        return Err("no list".into());
+    };
+    assert!(rt; shown(key) == "posts" && shown(snapshot) == "content");
+    assert!(rt; of.0 == 0 && context.0 == 4);
+    assert!(rt; *order == Order::Recent && *limit == Some(2));
+    Ok(())
+}
+
+#[test]
+fn shares_patterns(rt: HostRuntime) -> Result<(), Fail> {
+    let Rules {
+        rules,
+        contexts: _,
+        patterns,
+    } = read_rules(rt.alloc(), SHARED.as_bytes())
+        .ok()
+        .ok_or("refused")?;
+    assert_eq!(rt; patterns.len(), 2);
+    let rule = rules.first().ok_or("no rule")?;
+    for (step, wanted) in rule.chain.steps.iter().zip(&[0, 1, 0, 1]) {
+        assert!(rt; is_concat(step, *wanted), "at {wanted}");
+    }
+    Ok(())
+}
+
+fn is_concat(step: &Step, wanted: u32) -> bool {
+    match step {
+        Step::Concat(number) => number.0 == wanted,
+        _ => false,
+    }
 }
 
 #[test]

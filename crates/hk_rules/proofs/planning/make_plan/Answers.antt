@@ -1,22 +1,24 @@
-use Rattle.std.proofs.Common.{◌∙◌, ap, subst}
-use Rattle.std.specs.Ordering.{nat_cmp}
-use Rattle.std.specs.Cmp.Lexicographic.{slice_cmp}
-use Rattle.std.specs.BTreeMap.{get}
-use Rattle.std.proofs.lemmas.Result.{IfOk-weaker}
+use Rattle.std.proofs.Common.{sym, ap, ◌∙◌, subst, Err}
+use Rattle.std.proofs.lemmas.Result.{err_from_is_err_and}
 use Rattle.hk_base.specs.Answers.{Answers}
-use Rattle.hk_base.specs.Bytes.{Bytes, ascends}
-use Rattle.hk_rules.specs.Planning.{plan_of, plan_by, items_by, item_paths, has_companion}
-use Rattle.hk_rules.proofs.Ascending.{ascends-items}
+use Rattle.hk_rules.specs.Outcomes.{Passes}
+use Rattle.hk_rules.specs.Planning.{name_fault, plan_of}
+use Rattle.hk_rules.specs.Universe.{universe, Enough}
+use Rattle.hk_rules.proofs.Planned.{plan_of-stop, plan_of-on}
 use Rattle.hk_rules.proofs.planning.make_plan.Goals as goal
 
-pub returns-clause-plan : goal.returns-clause-plan
-unfolding plan_of
-returns-clause-plan c =
-    let items = c.in_ok-items.ensures ∙ (λ i. items_by (λ path. c.in_ok-makings.ensures path i) c.args.files.items) in
-    let with = λ (path : Bytes). c.in_ok-companions.ensures path ∙ ap (λ files. has_companion files path) c.deref.ensures.value in
-    subst (λ r. Answers r c.plan_by.result) (λ i. plan_by (λ path. with path i) (items i)) c.plan_by.ensures.plan
+pub returns-in_err-check_names : goal.returns-in_err-check_names
+returns-in_err-check_names c =
+    let p = err_from_is_err_and c.from_residual.result c.from_residual.ensures.1 in
+    let stop = subst (λ fs. Passes {T = Unit {0}} (name_fault fs) (Err c.in_err-check_names.field-0.0)) c.deref.ensures.value c.in_err-check_names.ensures in
+    record { plan = rw (p.1, p.2) (plan_of-stop (Unit {0}) c.args.rules c.args.files.items c.in_err-check_names.field-0.0 stop) }
 
-pub returns-clause-ascending : goal.returns-clause-ascending
-returns-clause-ascending c =
-    let makings = get (slice_cmp nat_cmp) c.in_ok-makings.makings in
-    IfOk-weaker c.plan_by.result _ _ (λ plan e. ap (λ items. ascends (item_paths items)) (e ∙ c.in_ok-items.ensures) ∙ ascends-items makings c.args.files.items c.requires) c.plan_by.ensures.items
+pub returns : goal.returns
+returns c =
+    let free = ap name_fault (sym c.deref.ensures.value) ∙ c.in_ok-check_names.ensures in
+    let whole = c.deref-2.ensures.value ∙ c.in_ok-sources.ensures in
+    let are = subst (λ s. Enough c.in_ok-items.items.items (universe s c.rules.inside.rules.items)) whole c.in_ok-items.ensures.items in
+    record {
+      plan = subst (λ rs. Answers (plan_of rs c.args.files.items) c.plan_items.result) c.rules.view_is
+          (plan_of-on _ c.args.files.items c.in_ok-items.items.items c.plan_items.result free are c.plan_items.ensures);
+    }

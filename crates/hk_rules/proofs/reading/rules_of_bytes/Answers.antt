@@ -1,7 +1,7 @@
 use Rattle.std.proofs.Common.{◌∙◌, ap, rules, sym, subst, None, IsTrue, false}
 use Rattle.toml.specs.Parse.{parse_document}
 use Rattle.hk_base.specs.Answers.{Answers}
-use Rattle.hk_rules.specs.Form.{rules_of_document}
+use Rattle.hk_rules.specs.RulesForm.{rules_of_document}
 use Rattle.hk_rules.proofs.Documents.{document-text, document-none}
 use Rattle.hk_rules.proofs.reading.rules_of_bytes.Goals as goal
 

@@ -1,13 +1,11 @@
-use Rattle.std.proofs.Common.{◌∙◌, codes}
-use Rattle.std.specs.Prelude.{bytes_eq}
-use Rattle.hk_rules.proofs.Tables.{keys_pass-entries}
-use Rattle.hk_rules.specs.Form.{rules_of_table, rules_by}
+use Rattle.std.proofs.Common.{◌∙◌, ap, subst}
 use Rattle.hk_base.specs.Answers.{Answers}
-use Rattle.std.proofs.Common.{subst}
+use Rattle.hk_rules.specs.RulesForm.{rules_of_table, top_by, contexts_at, rules_at}
 use Rattle.hk_rules.proofs.reading.rules_of_table.Goals as goal
 
 pub returns : goal.returns
 unfolding rules_of_table
 returns c =
-    let alone = c.has_rule_alone.ensures ∙ keys_pass-entries (λ k. bytes_eq k (codes "rule")) c.args.table.now in
-    subst (λ r. Answers r c.rules_by.result) (λ i. rules_by (alone i) (c.value_at.ensures i)) c.rules_by.ensures
+    let contexts = c.contexts_at-contexts.ensures ∙ ap contexts_at c.value_at.ensures in
+    let rules = c.rules_at-rules.ensures ∙ ap rules_at c.value_at-2.ensures in
+    subst (λ r. Answers r c.top_by.result) (λ i. top_by (c.in_ok-other.ensures i) (contexts i) (rules i)) c.top_by.ensures

@@ -1,0 +1,8 @@
+use Rattle.std.proofs.Common.{ap, ◌∙◌, sym, append-nil, ◌++◌}
+use Rattle.std.proofs.lemmas.Map.Iter.{rest_all}
+use Rattle.hk_app.proofs.PageMaps.{ordered-entries}
+use Rattle.hk_app.proofs.pages.in_order.Goals as goal
+
+pub returns : goal.returns
+returns c =
+    sym (append-nil c.loop-target.ordered.items) ∙ ap (λ l. c.loop-target.ordered.items ++ l) (sym c.in-None.ensures.steps.0) ∙ c.loop-target.invariant ∙ sym (ordered-entries c.args.pages.entries c.len.ensures.ordered)

@@ -1,0 +1,60 @@
+-- The pairs of items and the items of a pattern, one after another.
+use Rattle.std.proofs.Common.{◌≡◌, ℕ, ◌+◌, ◌<◌, Bool, cond, List, [], ◌∷◌, ◌++◌, length, take, get_or, replicate, Option, Some, None, refl, sym, ap, ◌∙◌, arith, zero-add, filter, length-append}
+use Rattle.std.specs.List.{range_with_len, cons_option}
+use Rattle.std.specs.Option.{is_some, option_map}
+use Rattle.std.proofs.lemmas.List.{take_more, map-id, map-append, length-replicate}
+use Rattle.std.proofs.lemmas.List.Elements.{filter_map-append, filter-append}
+use Rattle.std.proofs.lemmas.List.FromFn.{map-range_with_len_more}
+use Rattle.hk_base.specs.Bytes.{Bytes}
+use Rattle.hk_base.specs.Identifier.{Ident}
+use Rattle.hk_chain.specs.Counts.{pair_items, layout_of}
+use Rattle.hk_chain.specs.Layout.{pairs}
+use Rattle.hk_chain.specs.declared.chain.Step.{Step}
+use Rattle.hk_pattern.specs.declared.pattern.Pattern.{Pattern}
+use Rattle.hk_rules.specs.Pairs.{saved, saves, count_of, counts}
+use Rattle.hk_rules.specs.Plan.{is_match}
+use Rattle.hk_rules.specs.declared.owner.Owner.{Owner}
+
+pub is_some-map : {A B : Type 0} (f : A → B) (o : Option A) → is_some (option_map f o) ≡ is_some o
+is_some-map f None = refl
+is_some-map f (Some x) = refl
+
+one : (o : Option Bytes) → length (cons_option o []) ≡ cond (is_some o) 1 0
+one None = refl
+one (Some x) = refl
+
+-- one more step
+pub count-turn : (steps : List Step) (i : ℕ) (step : Step) (b : Bool) → i < length steps → step ≡ get_or steps i step → is_some (saved step) ≡ b → length (saves (take (i + 1) steps)) ≡ length (saves (take i steps)) + cond b 1 0
+count-turn steps i step b h at is =
+    ap (λ xs. length (saves xs)) (take_more steps i step h)
+    ∙ ap length (filter_map-append saved (take i steps) (get_or steps i step ∷ []))
+    ∙ length-append (saves (take i steps)) (saves (get_or steps i step ∷ []))
+    ∙ ap (λ s. length (saves (take i steps)) + length (saves (s ∷ []))) (sym at)
+    ∙ ap (λ n. length (saves (take i steps)) + n) (one (saved step) ∙ ap (λ c. cond c 1 0) is)
+
+range-push : (n : ℕ) → range_with_len 0 (n + 1) ≡ range_with_len 0 n ++ n ∷ []
+range-push n = sym (map-id (range_with_len 0 (n + 1))) ∙ map-range_with_len_more (λ k. k) 0 n n (zero-add n) ∙ ap (λ r. r ++ n ∷ []) (map-id (range_with_len 0 n))
+
+-- one more item
+pub match-turn : (items : List (Ident × Owner)) (by : Pattern) (n : ℕ) (b : Bool) → is_match items by n ≡ b → filter (is_match items by) (range_with_len 0 (n + 1)) ≡ filter (is_match items by) (range_with_len 0 n) ++ cond b (n ∷ []) []
+match-turn items by n b is =
+    ap (filter (is_match items by)) (range-push n)
+    ∙ filter-append (is_match items by) (range_with_len 0 n) (n ∷ [])
+    ∙ ap (λ c. filter (is_match items by) (range_with_len 0 n) ++ cond c (n ∷ []) []) is
+
+pub counts-turn : (items : List (Ident × Owner)) (i : ℕ) (item : Ident × Owner) (old new : List ℕ) (count : ℕ) → i < length items → item ≡ get_or items i item → count ≡ count_of item → old ≡ counts (take i items) → new ≡ old ++ count ∷ [] → new ≡ counts (take (i + 1) items)
+counts-turn items i item old new count h at is so_far put =
+    put
+    ∙ ap (λ o. o ++ count ∷ []) so_far
+    ∙ ap (λ n. counts (take i items) ++ n ∷ []) (is ∙ ap count_of at)
+    ∙ sym (map-append count_of (take i items) (get_or items i item ∷ []))
+    ∙ ap counts (sym (take_more items i item h))
+
+pairs-push : (i : ℕ) (cs : List ℕ) (c : ℕ) → length (pair_items i (cs ++ c ∷ [])) ≡ length (pair_items i cs) + c + 1
+pairs-push i [] c = omega (arith, length-append (replicate (c + 1) i) [], length-replicate (c + 1) i)
+pairs-push i (d ∷ cs) c =
+    omega (arith, pairs-push (i + 1) cs c, length-append (replicate (d + 1) i) (pair_items (i + 1) (cs ++ c ∷ [])), length-append (replicate (d + 1) i) (pair_items (i + 1) cs))
+
+pub total-turn : (old new : List ℕ) (count total next : ℕ) → total ≡ pairs (layout_of old) → next ≡ total + count + 1 → new ≡ old ++ count ∷ [] → next ≡ pairs (layout_of new)
+total-turn old new count total next so_far more put =
+    more ∙ ap (λ t. t + count + 1) so_far ∙ sym (pairs-push 0 old count) ∙ ap (λ cs. pairs (layout_of cs)) (sym put)

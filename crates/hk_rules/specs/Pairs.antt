@@ -1,0 +1,53 @@
+-- The names under which items save pages, and their numbers.
+use Rattle.std.specs.Prelude.{ℕ, ◌-◌, List, [], ◌∷◌, ◌++◌, map, length, filter_map, Option, Some, None, option_map, bytes_eq, codes}
+use Rattle.std.specs.List.{position_from, slice_index_or}
+use Rattle.hk_base.specs.Bytes.{Bytes}
+use Rattle.hk_base.specs.Identifier.{Ident}
+use Rattle.hk_chain.specs.Counts.{layout_of}
+use Rattle.hk_chain.specs.Layout.{Shape}
+use Rattle.hk_chain.specs.declared.chain.Step.{Step}
+use Rattle.hk_chain.specs.declared.chain.Step.TheVariants.{Save}
+use Rattle.hk_rules.specs.declared.owner.Owner.{Owner}
+
+-- the name under which a step saves the page
+abbrev pub saved : Step → Option Bytes
+saved (Save name) = Some name
+saved _ = None
+
+-- the names under which a chain saves its page on its way
+abbrev pub saves : List Step → List Bytes
+saves steps = filter_map saved steps
+
+-- the name of the finished page
+abbrev pub final_name : Bytes
+final_name = codes "_final"
+
+-- all names of an item's pages, in chain order, the finished one last
+abbrev pub names_of : List Step → List Bytes
+names_of steps = saves steps ++ final_name ∷ []
+
+abbrev pub count_of : Ident × Owner → ℕ
+count_of item = length (saves item.1.rule.chain)
+
+abbrev pub counts : List (Ident × Owner) → List ℕ
+counts items = map count_of items
+
+-- the pairs of the items, item after item
+abbrev pub layout : List (Ident × Owner) → Shape
+layout items = layout_of (counts items)
+
+-- the place of a name among those of a chain
+abbrev pub place_of : List Step → Bytes → Option ℕ
+place_of steps name = position_from (λ own. bytes_eq own name) 0 (names_of steps)
+
+-- the pair of an item with a name, counted back from the item's last pair
+abbrev pub pair_at : ℕ → List Step → Bytes → Option ℕ
+pair_at last steps name = option_map (λ place. last - (length (saves steps) - place)) (place_of steps name)
+
+-- the name at a place, the finished page's after all others
+abbrev pub name_at : List Step → ℕ → Bytes
+name_at steps place = slice_index_or (saves steps) place final_name
+
+-- the name of a pair of an item whose last pair is `last`
+abbrev pub name_before : ℕ → List Step → ℕ → Bytes
+name_before last steps pair = name_at steps (length (saves steps) - (last - pair))

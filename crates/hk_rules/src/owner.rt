@@ -1,0 +1,11 @@
+// Who owns an item.
+use crate::rules::Rule;
+use crate::shared::Shared;
+use crate::source_file::SourceFile;
+
+/// The rule that owns an item, and the file that the item is of. A created item has no file.
+#[derive(Drop)]
+pub struct Owner {
+    pub rule: Shared<Rule>,
+    pub source: Option<Shared<SourceFile>>,
+}

@@ -1,0 +1,10 @@
+// What an item is made of.
+use crate::shared::Shared;
+use hk_base::Text;
+
+/// What a file holds, and what its companion holds.
+#[derive(Drop)]
+pub struct SourceFile {
+    pub text: Text,
+    pub companion: Option<Shared<Text>>,
+}
