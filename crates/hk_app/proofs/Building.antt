@@ -1,14 +1,13 @@
 -- From what the parts of a run answer to what the run promises, over plain values.
-use Rattle.std.proofs.Common.{◌≡◌, ℕ, Bool, true, false, ◌&&◌, cond, not, List, [], ◌∷◌, filter, map, Option, Some, None, refl, sym, ap, subst, ◌∙◌, IfSome, IfOk, Result, Ok, Err, length, inl, inr, ⊎_elim, ◌⊎◌, append-nil, ◌≤◌}
-use Rattle.std.specs.Prelude.{bytes_eq, T, ◌||◌}
-use Rattle.std.specs.Ordering.{nat_cmp, is_lt, eq_by_cmp}
+use Rattle.std.proofs.Common.{◌≡◌, ℕ, Bool, true, false, cond, not, List, [], ◌∷◌, Option, Some, None, refl, sym, ap, subst, ◌∙◌, IfSome, IfOk, Result, Ok, Err, length, inl, inr, ⊎_elim, ◌⊎◌, append-nil, ◌≤◌}
+use Rattle.std.specs.Prelude.{bytes_eq, ◌||◌}
+use Rattle.std.specs.Ordering.{nat_cmp, eq_by_cmp}
 use Rattle.std.specs.Cmp.Lexicographic.{slice_cmp, nat_list_cmp_total}
 use Rattle.std.specs.declared.cmp.Ordering.{Ordering}
-use Rattle.std.specs.FinMap.{get, entries, keys, from_entries, get-entries, get-from_entries, same_map}
-use Rattle.std.specs.FinMap.Entries.{find, find-where_key, below_all}
-use Rattle.hk_base.specs.Bytes.{Bytes, Files, ascends, paths_of}
+use Rattle.std.specs.FinMap.{entries, keys, from_entries, get-entries, get-from_entries, same_map}
+use Rattle.std.specs.FinMap.Entries.{find, find-where_key}
+use Rattle.hk_base.specs.Bytes.{Bytes, Files}
 use Rattle.hk_base.specs.Ties.{same_test, only_equal_tie}
-use Rattle.hk_base.proofs.Both.{left-part, right-part, both-true}
 use Rattle.hk_base.specs.declared.refusal.NoMemory.{NoMemory as NoMemory-data}
 use Rattle.hk_rules.specs.PlanView.{PlanView}
 use Rattle.hk_rules.specs.Resource.{is_ignored}
@@ -18,15 +17,15 @@ use Rattle.hk_app.specs.declared.reading.Gathered.{Gathered}
 use Rattle.hk_app.specs.declared.reading.Gathered.TheVariants.{Refused, Planned}
 use Rattle.hk_app.specs.Gathering.{RefusesReading, ReadsAs, RefusesFolder, Gathers}
 use Rattle.hk_app.specs.Printed.{summary}
-use Rattle.hk_app.specs.Writing.{changes, writings, removals, after, IsMadeInPart}
+use Rattle.hk_app.specs.Writing.{changes, writings, removals, after}
 use Rattle.hk_app.specs.declared.ended.Ended.{Ended}
-use Rattle.hk_app.specs.Site.{Reading, absent, refused, unplanned, planned, found_at, rules_path, is_read, are_read, unignored, files_reading, text_reading, reading}
+use Rattle.hk_app.specs.Site.{Reading, planned, found_at, rules_path, is_read, are_read, unignored, files_reading, text_reading, reading}
 use Rattle.hk_app.specs.Pages.{pages, site_of}
 use Rattle.hk_app.specs.World.{Folder, Folders, Output}
-use Rattle.hk_app.specs.Promise.{Command, build, command, Same, Always, Plans, IsBuilt, IsBadRules, IsBadSite, IsPartlySite, Holds, LeavesWanting, untouched, partly, whole, torn, Written, Cut, AtNoMemory, Said, IsExcused, Completes, Promise}
+use Rattle.hk_app.specs.Promise.{build, command, Same, Plans, IsBuilt, IsBadRules, IsBadSite, IsPartlySite, Holds, LeavesWanting, untouched, whole, torn, IsExcused, Completes, Promise}
 use Rattle.hk_outside.specs.Causes.{Rose}
 use Rattle.hk_app.specs.Complete.{DoneOrWanting}
-use Rattle.hk_app.specs.Run.{Ends, EndsBuild, EndsBuilt, WantsBuilt, Says}
+use Rattle.hk_app.specs.Run.{Ends, EndsBuild, EndsBuilt, Says}
 use Rattle.hk_app.proofs.FolderReads.{same_key}
 
 abbrev R : Bytes → Bytes → Ordering

@@ -1,8 +1,7 @@
 -- The two loops that write a folder.
 use Rattle.std.proofs.Common.{◌≡◌, ℕ, ◌+◌, ◌≤◌, Bool, true, false, cond, not, List, [], ◌∷◌, ◌++◌, map, Option, Some, None, refl, sym, ap, subst, ◌∙◌, IfSome, arith, length, filter, length-append}
-use Rattle.std.specs.Prelude.{◌&&◌, T, bytes_eq}
+use Rattle.std.specs.Prelude.{T}
 use Rattle.std.specs.Ordering.{nat_cmp, is_eq, is_lt, eq_by_cmp, ordering_reverse}
-use Rattle.std.specs.Cmp.{tied_itself}
 use Rattle.std.specs.Cmp.Lexicographic.{slice_cmp, nat_list_cmp_total}
 use Rattle.std.specs.declared.cmp.Ordering.{Ordering}
 use Rattle.std.specs.declared.cmp.Ordering.TheVariants.{Less, Equal, Greater}
@@ -10,7 +9,7 @@ use Rattle.std.specs.FinMap.{get, insert, get-insert}
 use Rattle.std.specs.FinMap.Entries.{below_all}
 use Rattle.hk_base.specs.Bytes.{Bytes, Files, ascends, paths_of}
 use Rattle.hk_base.proofs.Both.{left-part, right-part}
-use Rattle.hk_app.specs.Writing.{Change, removal, writing, changed, after, is_page, holds, removals, writings}
+use Rattle.hk_app.specs.Writing.{Change, removal, writing, after, is_page, holds, removals, writings}
 use Rattle.hk_app.proofs.Making.{IsMaking}
 
 abbrev R : Bytes → Bytes → Ordering

@@ -1,8 +1,6 @@
 -- Changes made one after another, as a call that makes them all.
-use Rattle.std.proofs.Common.{◌≡◌, ℕ, List, [], ◌∷◌, ◌++◌, Option, Some, None, Result, Ok, Err, refl, sym, ap, subst, ◌∙◌, IfSome, IsSome, append_assoc, append-nil, inl, ◌⊎◌}
-use Rattle.std.specs.FinMap.{get}
-use Rattle.hk_base.specs.Bytes.{Bytes, Files}
-use Rattle.hk_outside.specs.Tree.{SameBut}
+use Rattle.std.proofs.Common.{◌≡◌, List, [], ◌∷◌, ◌++◌, Option, Some, None, Ok, Err, refl, sym, ap, subst, ◌∙◌, IfSome, IsSome, append_assoc, append-nil, inl}
+use Rattle.hk_base.specs.Bytes.{Files}
 use Rattle.hk_outside.specs.declared.tree.TreeFault.{TreeFault}
 use Rattle.hk_outside.specs.declared.tree.TreeFault.TheVariants.{Failed, NoMemory}
 use Rattle.hk_app.specs.Writing.{Change, removal, writing, changed, after, IsTorn, IsMadeInPart, IsTornInPart, Makes}

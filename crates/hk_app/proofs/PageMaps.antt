@@ -1,6 +1,5 @@
 -- The pages of a plan, put into a map one after another.
-use Rattle.std.proofs.Common.{◌≡◌, ℕ, ◌+◌, ◌-◌, ◌<◌, ◌≤◌, Bool, true, false, cond, List, [], ◌∷◌, ◌++◌, map, Option, Some, None, refl, sym, ap, subst, ◌∙◌, arith, suc}
-use Rattle.std.specs.Prelude.{T}
+use Rattle.std.proofs.Common.{◌≡◌, ℕ, ◌+◌, ◌-◌, ◌<◌, ◌≤◌, cond, List, [], ◌∷◌, ◌++◌, map, Option, Some, None, refl, sym, ap, ◌∙◌, arith, suc}
 use Rattle.std.specs.Ordering.{nat_cmp, match_ordering, eq_by_cmp}
 use Rattle.std.specs.Cmp.Lexicographic.{slice_cmp, nat_list_cmp_total}
 use Rattle.std.specs.List.{filter_map, range_with_len, cons_option}
@@ -9,9 +8,9 @@ use Rattle.std.specs.List.Sorted.{IsStrictlySortedBy}
 use Rattle.std.specs.BTreeMap.{insert_entry}
 use Rattle.std.specs.declared.cmp.Ordering.{Ordering}
 use Rattle.std.specs.declared.cmp.Ordering.TheVariants.{Less, Equal, Greater}
-use Rattle.std.specs.FinMap.{insert, entries, from_entries, get-insert, get-from_entries, same_map}
-use Rattle.std.specs.FinMap.Entries.{find, put, find-put, by_order, is_sorted}
-use Rattle.hk_base.specs.Bytes.{Bytes, Files, ascends, paths_of}
+use Rattle.std.specs.FinMap.{insert, entries, get-insert, get-from_entries, same_map}
+use Rattle.std.specs.FinMap.Entries.{find, put, find-put, by_order}
+use Rattle.hk_base.specs.Bytes.{Bytes, Files, paths_of}
 use Rattle.hk_base.specs.Ties.{only_equal_tie}
 use Rattle.hk_base.proofs.Entries.{entries-from_entries}
 use Rattle.hk_base.proofs.Ascending.{ascends-sorted, sorted-paths}

@@ -1,16 +1,14 @@
 -- The changes of a folder leave exactly its pages.
-use Rattle.std.proofs.Common.{◌≡◌, ℕ, ◌+◌, ◌≤◌, Bool, true, false, cond, not, List, [], ◌∷◌, ◌++◌, map, Option, Some, None, Result, Ok, Err, refl, sym, ap, subst, ◌∙◌, IfSome, arith, length, filter, append-nil}
+use Rattle.std.proofs.Common.{◌≡◌, ℕ, Bool, true, false, cond, not, List, [], ◌∷◌, ◌++◌, map, Option, Some, None, Ok, refl, sym, ap, subst, ◌∙◌, IfSome, length, filter}
 use Rattle.std.specs.Prelude.{◌||◌, ◌&&◌, T, is_some, bytes_eq}
-use Rattle.std.specs.Ordering.{nat_cmp, is_eq, is_lt, eq_by_cmp}
-use Rattle.std.specs.Cmp.{tied_itself}
+use Rattle.std.specs.Ordering.{nat_cmp, eq_by_cmp}
 use Rattle.std.specs.Cmp.Lexicographic.{slice_cmp, nat_list_cmp_total}
 use Rattle.std.specs.List.{list_any}
 use Rattle.std.specs.declared.cmp.Ordering.{Ordering}
-use Rattle.std.specs.declared.cmp.Ordering.TheVariants.{Less, Equal, Greater}
-use Rattle.std.specs.FinMap.{get, insert, remove, keys, same_map, get-insert, get-remove, get-from_entries, from_entries, contains_key-keys}
-use Rattle.std.specs.FinMap.Entries.{find, below_all}
+use Rattle.std.specs.FinMap.{get, remove, keys, same_map, get-insert, get-remove, get-from_entries, from_entries, contains_key-keys}
+use Rattle.std.specs.FinMap.Entries.{find}
 use Rattle.std.specs.BTreeSet.{BTreeSet, IsFromIterResult}
-use Rattle.std.specs.List.Sorted.{IsStrictlySortedBy, IsPermutation}
+use Rattle.std.specs.List.Sorted.{IsPermutation}
 use Rattle.std.proofs.lemmas.List.Sorted.{list_any-IsPermutation}
 use Rattle.hk_base.specs.Bytes.{Bytes, Files, ascends, paths_of}
 use Rattle.hk_app.proofs.FolderReads.{only-keys}
@@ -18,7 +16,7 @@ use Rattle.hk_base.specs.Ties.{only_equal_tie, ties-same, bytes-same, bytes-self
 use Rattle.hk_base.proofs.Both.{right-part, both-left}
 use Rattle.hk_base.proofs.Entries.{find-below}
 use Rattle.hk_base.proofs.Ascending.{sorted-paths}
-use Rattle.hk_app.specs.Writing.{Change, removal, writing, changed, after, is_page, holds, removals, writings, changes, Makes}
+use Rattle.hk_app.specs.Writing.{removal, writing, after, is_page, holds, removals, writings, changes, Makes}
 use Rattle.hk_app.proofs.Making.{after-append, making-init, making-end, IsMaking}
 use Rattle.hk_app.proofs.FolderWrites.{writings-front}
 

@@ -1,5 +1,5 @@
 -- The writing of a folder, change by change.
-use Rattle.std.specs.Prelude.{◌≡◌, ◌≢◌, ◌⊎◌, ℕ, Bool, false, not, List, [], ◌∷◌, ◌++◌, map, Option, Some, None, Result, bytes_eq, length, IfSome, OnOk, IsErrOf, IsSome}
+use Rattle.std.specs.Prelude.{◌≡◌, ◌⊎◌, Bool, false, not, List, [], ◌∷◌, ◌++◌, map, Option, Some, None, Result, bytes_eq, IfSome, OnOk, IsErrOf, IsSome}
 use Rattle.std.specs.List.{list_any, filter}
 use Rattle.std.specs.FinMap.{get, insert, remove, keys}
 use Rattle.hk_base.specs.Bytes.{Bytes, Files}

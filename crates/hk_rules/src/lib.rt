@@ -40,6 +40,8 @@ mod targets;
 #[cfg(test)]
 mod tests;
 mod universe;
+#[cfg(test)]
+mod values_tests;
 
 pub use fault::RulesFault;
 pub use pattern_text::text_of_pattern;

@@ -1,48 +1,9 @@
 // What rules files are read as, and how they are refused.
 use crate::{Rules, RulesFault, is_companion, is_ignored, read_rules};
 use hk_base::{Refusal, Text};
-use hk_chain::{Field, Order, Step};
+use hk_chain::Step;
 use std::alloc::{AllocError, Global};
 use std::test::Fail;
-
-/// The rules of a blog.
-const BLOG: &str = r#"
-[[rule]]
-match = "images/*"
-route = "id"
-compile = ["copy"]
-[[rule]]
-match = "css/*"
-route = "id"
-compile = ["string"]
-[[rule]]
-match = "about.md"
-route = { extension = "html" }
-compile = ["body", { apply = "templates/default.html" }, "relativize"]
-[[rule]]
-match = "posts/*"
-route = { extension = "html" }
-compile = ["body", { save = "content" }, { apply = "templates/post.html", context = "post" }, { apply = "templates/default.html", context = "post" }, "relativize"]
-[[rule]]
-create = ["archive.html"]
-route = "id"
-compile = [{ make = "" }, { apply = "templates/archive.html", context = "archive" }, { apply = "templates/default.html", context = "archive" }, "relativize"]
-[[rule]]
-match = "index.html"
-route = "id"
-compile = ["body", { self = "index" }, { apply = "templates/default.html", context = "index" }, "relativize"]
-[[rule]]
-match = "templates/*"
-compile = ["template"]
-[context.post]
-fields = [{ date = ["date", "%B %e, %Y"] }, "default"]
-[context.archive]
-fields = [{ list = "posts", of = "posts/*", order = "recent", context = "post" }, { const = ["title", "Archives"] }, "default"]
-[context.index]
-fields = [{ list = "posts", of = "posts/*", order = "recent", limit = 2, snapshot = "content", context = "teaser" }, "default"]
-[context.teaser]
-fields = [{ teaser = ["teaser", "content"] }, { date = ["date", "%B %e, %Y"] }, "default"]
-"#;
 
 /// Patterns that are named more than once.
 const SHARED: &str = r#"
@@ -208,40 +169,6 @@ fn counts_to_its_limits(rt: HostRuntime) -> Result<(), Fail> {
         let line = said(alloc, text.as_str())?;
         assert!(rt; line.as_str() == wanted, "at {count} deep: {line}");
     }
-    Ok(())
-}
-
-#[test]
-fn reads_a_blog(rt: HostRuntime) -> Result<(), Fail> {
-    let Rules {
-        rules,
-        contexts,
-        patterns,
-    } = read_rules(rt.alloc(), BLOG.as_bytes())
-        .ok()
-        .ok_or("refused")?;
-    assert_eq!(rt; rules.len(), 7);
-    assert_eq!(rt; patterns.len(), 1);
-    let names = ["archive", "default", "index", "post", "teaser"];
-    assert_eq!(rt; contexts.len(), names.len());
-    for (context, name) in contexts.iter().zip(&names) {
-        assert!(rt; shown(&context.name) == *name, "at {name}");
-    }
-    let list = contexts[2].fields.first().ok_or("no field")?;
-    let Field::List {
-        key,
-        of,
-        snapshot,
-        order,
-        limit,
-        context,
-    } = list
-    else {
-        return Err("no list".into());
-    };
-    assert!(rt; shown(key) == "posts" && shown(snapshot) == "content");
-    assert!(rt; of.0 == 0 && context.0 == 4);
-    assert!(rt; *order == Order::Recent && *limit == Some(2));
     Ok(())
 }
 

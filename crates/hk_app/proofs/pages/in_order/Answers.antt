@@ -1,5 +1,4 @@
 use Rattle.std.proofs.Common.{ap, ◌∙◌, sym, append-nil, ◌++◌}
-use Rattle.std.proofs.lemmas.Map.Iter.{rest_all}
 use Rattle.hk_app.proofs.PageMaps.{ordered-entries}
 use Rattle.hk_app.proofs.pages.in_order.Goals as goal
 

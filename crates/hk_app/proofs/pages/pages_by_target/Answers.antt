@@ -1,5 +1,5 @@
-use Rattle.std.proofs.Common.{◌<◌, ap, ◌∙◌, sym, subst, arith}
-use Rattle.hk_rules.specs.Plan.{Lookups, lookups}
+use Rattle.std.proofs.Common.{◌<◌, subst}
+use Rattle.hk_rules.specs.Plan.{lookups}
 use Rattle.hk_app.proofs.PageMaps.{pages-turn}
 use Rattle.hk_app.proofs.pages.pages_by_target.Goals as goal
 

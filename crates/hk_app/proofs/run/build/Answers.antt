@@ -1,4 +1,4 @@
-use Rattle.std.proofs.Common.{◌≡◌, ap, ◌∙◌, sym, length, Some, IfSome, subst, List}
+use Rattle.std.proofs.Common.{◌≡◌, ap, ◌∙◌, length, Some, IfSome, subst, List}
 use Rattle.std.specs.FinMap.{from_entries, keys}
 use Rattle.hk_base.specs.Bytes.{Bytes, ascends, paths_of}
 use Rattle.hk_base.proofs.Ascending.{ascends-entries}

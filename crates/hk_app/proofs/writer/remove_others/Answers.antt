@@ -1,8 +1,8 @@
-use Rattle.std.proofs.Common.{◌≡◌, ◌++◌, ◌∷◌, [], sym, ap, ◌∙◌, arith, rules, not, true, false, length-append, refl, Bool, ℕ}
+use Rattle.std.proofs.Common.{◌≡◌, ◌∷◌, sym, ap, ◌∙◌, arith, true, length-append, refl, Bool, ℕ}
 use Rattle.std.specs.Map.Iter.{deref}
 use Rattle.std.proofs.lemmas.Map.Iter.{rest_more}
 use Rattle.std.proofs.lemmas.Result.{err_from_is_err_and}
-use Rattle.hk_app.specs.Writing.{is_page, removals}
+use Rattle.hk_app.specs.Writing.{removals}
 use Rattle.hk_app.proofs.Making.{making-stop, making-turn}
 use Rattle.hk_app.proofs.FolderWrites.{removals-front, counted-removal}
 use Rattle.hk_app.proofs.writer.remove_others.Goals as goal

@@ -1,11 +1,9 @@
-use Rattle.std.proofs.Common.{◌≡◌, ◌++◌, sym, ap, ◌∙◌, refl, [], append-nil, ℕ, Vec, Global}
+use Rattle.std.proofs.Common.{sym, refl, [], append-nil, ℕ}
 use Rattle.std.proofs.lemmas.Result.{err_from_is_err_and}
-use Rattle.hk_outside.specs.declared.tree.TreeFault.TheVariants.{NoMemory}
-use Rattle.hk_base.specs.Bytes.{Bytes}
 use Rattle.hk_app.specs.declared.writer.Counts.{Counts}
-use Rattle.hk_app.specs.Writing.{changes, removals, writings, after, Makes}
+use Rattle.hk_app.specs.Writing.{changes, removals, writings, after}
 use Rattle.hk_app.proofs.WholeSite.{whole-list, whole-making, whole-built, whole-counted}
-use Rattle.hk_app.proofs.Making.{making-init, making-same, making-stop, making-turn, making-end, making-read, IsMaking}
+use Rattle.hk_app.proofs.Making.{making-stop, making-turn, making-end}
 use Rattle.hk_app.proofs.writer.write_site.Goals as goal
 
 pub returns-in_err-removed-clause-makes : goal.returns-in_err-removed-clause-makes
