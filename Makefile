@@ -2,7 +2,8 @@
 # install  the same under PREFIX, /usr/local where none is given
 # demo     builds the example site in out/demo and prints its pages
 # test     the gate: every proof, test and must-fail edit, and the end-to-end cases
-# allocations   lets each allocation of a build fail in turn, with an unproved build; not part of the gate
+# allocations   lets each allocation of a build fail in turn, in the proved program; it wants a C compiler, and is not part
+#          of the gate
 # clean    takes away what the others made
 PREFIX = /usr/local
 program = crates/hk_cli/out/hk_cli
@@ -32,8 +33,8 @@ demo:
 test:
 	.ci/run
 
-allocations:
-	tests/allocations
+allocations: $(program)
+	tests/allocations $(program)
 
 clean:
 	rm -rf hakyll_cli out crates/*/out
