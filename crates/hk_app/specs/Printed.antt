@@ -3,8 +3,8 @@ use Rattle.std.specs.Prelude.{ℕ, ◌++◌, codes}
 use Rattle.std.specs.Fmt.{decimal}
 use Rattle.hk_base.specs.Bytes.{Bytes}
 use Rattle.hk_base.specs.Identifier.{Ident, print_ident}
-use Rattle.hk_rules.specs.declared.fault.RulesFault.{RulesFault}
-use Rattle.hk_rules.specs.declared.fault.RulesFault.TheVariants.{TooLong, NotToml, BadRule, TooManyRules, BadContext, DoubleSnapshot, UnknownContext}
+use Rattle.hk_rules.specs.RulesFault.{RulesFault}
+use Rattle.hk_rules.specs.RulesFault.TheVariants.{TooLong, NotToml, BadRule, TooManyRules, BadContext, DoubleSnapshot, UnknownContext}
 use Rattle.hk_rules.specs.declared.plan_fault.PlanFault.{PlanFault}
 use Rattle.hk_rules.specs.declared.plan_fault.PlanFault.TheVariants.{BadName, TooManyItems, BadHeader, BadTarget, SameTarget, NestedTarget, NotYet}
 

@@ -5,21 +5,21 @@ use Rattle.std.proofs.lemmas.List.{length-replicate, get_or-replicate, get_or_ap
 use Rattle.hk_chain.specs.Layout.{pairs, IsLayout}
 use Rattle.hk_chain.specs.Counts.{pair_items, last_pairs, layout_of}
 
-below-or-not : (a b : ℕ) → (a < b) ⊎ (b ≤ a)
+pub below-or-not : (a b : ℕ) → (a < b) ⊎ (b ≤ a)
 below-or-not a b = grind arith
 
 length-last_pairs : (p : ℕ) (cs : List ℕ) → length (last_pairs p cs) ≡ length cs
 length-last_pairs p [] = refl
 length-last_pairs p (c ∷ cs) = omega (arith, length-last_pairs (p + c + 1) cs)
 
-front-at : (c i : ℕ) (rest : List ℕ) (q : ℕ) → q < c + 1 → get_or (replicate (c + 1) i ++ rest) q 0 ≡ i
+pub front-at : (c i : ℕ) (rest : List ℕ) (q : ℕ) → q < c + 1 → get_or (replicate (c + 1) i ++ rest) q 0 ≡ i
 front-at c i rest q lt = get_or_append_left (replicate (c + 1) i) rest 0 q (omega (arith, length-replicate (c + 1) i)) ∙ get_or-replicate (c + 1) q i 0 lt
 
-back-at : (c i : ℕ) (rest : List ℕ) (q : ℕ) → c + 1 ≤ q → get_or (replicate (c + 1) i ++ rest) q 0 ≡ get_or rest (q - (c + 1)) 0
+pub back-at : (c i : ℕ) (rest : List ℕ) (q : ℕ) → c + 1 ≤ q → get_or (replicate (c + 1) i ++ rest) q 0 ≡ get_or rest (q - (c + 1)) 0
 back-at c i rest q le = get_or-append_right (replicate (c + 1) i) rest (c + 1) q 0 (length-replicate (c + 1) i) le
 
 -- whose a pair is, and that it is at most the item's last
-whose : (i p : ℕ) (cs : List ℕ) (q : ℕ) → q < length (pair_items i cs) → (j : ℕ) × (get_or (pair_items i cs) q 0 ≡ i + j) × (j < length cs) × (p + q ≤ get_or (last_pairs p cs) j 0)
+pub whose : (i p : ℕ) (cs : List ℕ) (q : ℕ) → q < length (pair_items i cs) → (j : ℕ) × (get_or (pair_items i cs) q 0 ≡ i + j) × (j < length cs) × (p + q ≤ get_or (last_pairs p cs) j 0)
 whose i p [] q lt = absurd (omega arith)
 whose i p (c ∷ cs) q lt =
     elim (below-or-not q (c + 1)) [
@@ -30,7 +30,7 @@ whose i p (c ∷ cs) q lt =
     ]
 
 -- where an item's last pair stands
-last-at : (i p : ℕ) (cs : List ℕ) (j : ℕ) → j < length cs → (p ≤ get_or (last_pairs p cs) j 0) × (get_or (last_pairs p cs) j 0 < p + length (pair_items i cs)) × (get_or (pair_items i cs) (get_or (last_pairs p cs) j 0 - p) 0 ≡ i + j)
+pub last-at : (i p : ℕ) (cs : List ℕ) (j : ℕ) → j < length cs → (p ≤ get_or (last_pairs p cs) j 0) × (get_or (last_pairs p cs) j 0 < p + length (pair_items i cs)) × (get_or (pair_items i cs) (get_or (last_pairs p cs) j 0 - p) 0 ≡ i + j)
 last-at i p [] j lt = absurd (omega arith)
 last-at i p (c ∷ cs) zero lt =
     let at : p + c - p ≡ c = omega arith in

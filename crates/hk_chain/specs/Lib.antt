@@ -4,3 +4,4 @@ pub mod Facts
 pub mod Kept
 pub mod Layout
 pub mod Marks
+pub mod Snapshots

@@ -12,7 +12,7 @@ use Rattle.hk_base.specs.Bytes.{Bytes}
 use Rattle.hk_base.specs.Identifier.{Ident, ident_cmp}
 use Rattle.hk_base.proofs.Both.{not-both}
 use Rattle.hk_rules.specs.Universe.{Claim, claimed, claimed_all, claims_of, Enough, same, many}
-use Rattle.hk_rules.specs.declared.rules.Rule.{Rule}
+use Rattle.hk_rules_file.specs.declared.rules.Rule.{Rule}
 use Rattle.hk_rules.specs.declared.owner.Owner.{Owner}
 use Rattle.hk_rules.specs.declared.source_file.SourceFile.{SourceFile}
 

@@ -3,14 +3,11 @@ use Rattle.std.proofs.Common.{◌≡◌, ℕ, suc, zero, ◌+◌, ◌<◌, ◌�
 use Rattle.std.specs.Prelude.{bytes_eq, fold, filter_map, zip}
 use Rattle.std.specs.List.{range_with_len}
 use Rattle.std.specs.Option.{option_or, option_to_list, is_some}
-use Rattle.std.specs.Ordering.{nat_cmp, is_eq}
-use Rattle.std.specs.Cmp.Lexicographic.{slice_cmp}
 use Rattle.std.proofs.lemmas.List.{take_more, take_all, map-id}
 use Rattle.std.proofs.lemmas.List.Elements.{filter_map-append}
 use Rattle.std.proofs.lemmas.List.Folds.{find-append}
 use Rattle.std.proofs.lemmas.List.FromFn.{map-range_with_len_more}
 use Rattle.std.proofs.lemmas.Grind.{fold-append}
-use Rattle.std.proofs.lemmas.Map.Text.{is_eq-slice_cmp}
 use Rattle.hk_base.specs.Bytes.{Bytes}
 use Rattle.hk_base.specs.Ties.{bytes-same}
 use Rattle.hk_rules.specs.Universe.{Claim}
@@ -52,10 +49,9 @@ sites-end items targets i old same h so_far =
     so_far ∙ ap (filter_map site_of) (take_all i (zip items targets) (subst (λ n. n ≤ i) (sym (length-zip items targets same)) h))
 
 -- a site is known from then on
-pub know-turn : (target key path : Bytes) (site value : Site) (at : Bytes → Option Site) (new : Option Site) → key ≡ target → value ≡ site → is_some (at target) ≡ false → new ≡ cond (is_eq (slice_cmp nat_cmp key path)) (Some value) (at path) → new ≡ option_or (at path) (cond (bytes_eq target path) (Some site) None)
+pub know-turn : (target key path : Bytes) (site value : Site) (at : Bytes → Option Site) (new : Option Site) → key ≡ target → value ≡ site → is_some (at target) ≡ false → new ≡ cond (bytes_eq key path) (Some value) (at path) → new ≡ option_or (at path) (cond (bytes_eq target path) (Some site) None)
 know-turn target key path site value at new k v free update =
     update
-    ∙ ap (λ b. cond b (Some value) (at path)) (is_eq-slice_cmp key path)
     ∙ ap (λ t. cond (bytes_eq t path) (Some value) (at path)) k
     ∙ ap (λ s. cond (bytes_eq target path) (Some s) (at path)) v
     ∙ elim (bytes_eq target path) as (λ b. bytes_eq target path ≡ b → cond b (Some site) (at path) ≡ option_or (at path) (cond b (Some site) None)) [

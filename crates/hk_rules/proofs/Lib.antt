@@ -1,12 +1,15 @@
 pub mod Claiming
-mod Companions
 pub mod Clashing
-pub mod Documents
-pub mod Open
+pub mod Flagging
+mod Companions
+pub mod LinkedPlans
+pub mod ItemNumbers
+pub mod NestedTargets
 pub mod Outcome
+pub mod PairNumbers
 pub mod Pairing
-pub mod Places
 pub mod Planned
 pub mod Searching
-pub mod Tables
+pub mod Settling
+pub mod SitesByTarget
 pub mod Traversal

@@ -6,7 +6,7 @@ use Rattle.hk_rules.specs.Headers.{header_of}
 use Rattle.hk_rules.specs.Outcomes.{unless, after, each}
 use Rattle.hk_rules.specs.PlanView.{PlanView}
 use Rattle.hk_rules.specs.Planning.{plan_of, plan_by, plan_items, plan_counted, plan_headed, plan_routed, name_fault, count_fault, step_fault}
-use Rattle.hk_rules.specs.Rules.{RulesView}
+use Rattle.hk_rules_file.specs.Rules.{RulesView}
 use Rattle.hk_rules.specs.Sources.{sources as sources_of}
 use Rattle.hk_rules.specs.Targets.{target_of}
 use Rattle.hk_rules.specs.Universe.{universe}
@@ -66,12 +66,12 @@ abbrev pub Fresh : List Site → List Site → Type 0
 Fresh earlier [] = Unit {0}
 Fresh earlier (site ∷ later) = (site_at earlier site.target ≡ None) × Fresh (earlier ++ site ∷ []) later
 
-none-lesser : (best clash : Option Clash) → lesser best clash ≡ None → (best ≡ None) × (clash ≡ None)
+pub none-lesser : (best clash : Option Clash) → lesser best clash ≡ None → (best ≡ None) × (clash ≡ None)
 none-lesser best None e = (e, refl)
 none-lesser None (Some c) e = cc
 none-lesser (Some b) (Some c) e = elim (is_less c b) as (λ t. cond t (Some c) (Some b) ≡ None → (Some b ≡ None) × (Some c ≡ None)) [ true ↦ λ h. cc | false ↦ λ h. cc ] e
 
-none-clash : (site : Site) (first : Option Site) → clash_by site first ≡ None → first ≡ None
+pub none-clash : (site : Site) (first : Option Site) → clash_by site first ≡ None → first ≡ None
 none-clash site None e = refl
 none-clash site (Some first) e = cc
 
@@ -86,7 +86,7 @@ fresh-after earlier (site ∷ later) best e =
     let first = none-lesser best clash (same_after-best (earlier ++ site ∷ []) later (lesser best clash) e) in
     (none-clash site (site_at earlier site.target) first.1, fresh-after (earlier ++ site ∷ []) later (lesser best clash) e)
 
-none-fault : (same nested : Option Clash) → fault_by same nested ≡ None → (same ≡ None) × (nested ≡ None)
+pub none-fault : (same nested : Option Clash) → fault_by same nested ≡ None → (same ≡ None) × (nested ≡ None)
 none-fault (Some c) nested e = cc
 none-fault None (Some c) e = cc
 none-fault None None e = (refl, refl)

@@ -10,9 +10,7 @@ use Rattle.hk_base.specs.Identifier.{Ident}
 use Rattle.hk_chain.specs.Counts.{pair_items, layout_of}
 use Rattle.hk_chain.specs.Layout.{pairs}
 use Rattle.hk_chain.specs.declared.chain.Step.{Step}
-use Rattle.hk_pattern.specs.declared.pattern.Pattern.{Pattern}
 use Rattle.hk_rules.specs.Pairs.{saved, saves, count_of, counts}
-use Rattle.hk_rules.specs.Plan.{is_match}
 use Rattle.hk_rules.specs.declared.owner.Owner.{Owner}
 
 pub is_some-map : {A B : Type 0} (f : A → B) (o : Option A) → is_some (option_map f o) ≡ is_some o
@@ -35,13 +33,14 @@ count-turn steps i step b h at is =
 range-push : (n : ℕ) → range_with_len 0 (n + 1) ≡ range_with_len 0 n ++ n ∷ []
 range-push n = sym (map-id (range_with_len 0 (n + 1))) ∙ map-range_with_len_more (λ k. k) 0 n n (zero-add n) ∙ ap (λ r. r ++ n ∷ []) (map-id (range_with_len 0 n))
 
--- one more item
-pub match-turn : (items : List (Ident × Owner)) (by : Pattern) (n : ℕ) (b : Bool) → is_match items by n ≡ b → filter (is_match items by) (range_with_len 0 (n + 1)) ≡ filter (is_match items by) (range_with_len 0 n) ++ cond b (n ∷ []) []
-match-turn items by n b is =
-    ap (filter (is_match items by)) (range-push n)
-    ∙ filter-append (is_match items by) (range_with_len 0 n) (n ∷ [])
-    ∙ ap (λ c. filter (is_match items by) (range_with_len 0 n) ++ cond c (n ∷ []) []) is
+-- one more number
+pub filter-turn : (test : ℕ → Bool) (n : ℕ) (b : Bool) → test n ≡ b → filter test (range_with_len 0 (n + 1)) ≡ filter test (range_with_len 0 n) ++ cond b (n ∷ []) []
+filter-turn test n b is =
+    ap (filter test) (range-push n)
+    ∙ filter-append test (range_with_len 0 n) (n ∷ [])
+    ∙ ap (λ c. filter test (range_with_len 0 n) ++ cond c (n ∷ []) []) is
 
+-- one more item
 pub counts-turn : (items : List (Ident × Owner)) (i : ℕ) (item : Ident × Owner) (old new : List ℕ) (count : ℕ) → i < length items → item ≡ get_or items i item → count ≡ count_of item → old ≡ counts (take i items) → new ≡ old ++ count ∷ [] → new ≡ counts (take (i + 1) items)
 counts-turn items i item old new count h at is so_far put =
     put

@@ -10,7 +10,7 @@ use Rattle.hk_pattern.specs.declared.pattern.Pattern.{Pattern}
 use Rattle.hk_rules.specs.Outcomes.{Passes, unless}
 use Rattle.hk_rules.specs.PlanView.{PlanView}
 use Rattle.hk_rules.specs.Planning.{name_fault, plan_items, plan_counted, plan_of}
-use Rattle.hk_rules.specs.Rules.{RulesView}
+use Rattle.hk_rules_file.specs.Rules.{RulesView}
 use Rattle.hk_rules.specs.Sources.{sources}
 use Rattle.hk_rules.specs.Universe.{Claim, universe, Enough, same, many}
 use Rattle.hk_rules.specs.declared.plan_fault.PlanFault.{PlanFault}

@@ -15,7 +15,7 @@ Entry = Ident × Owner
 abbrev test : Ident → Entry → Bool
 test q e = is_eq (ident_cmp q e.0)
 
-none-all : (q : Ident) (k : ℕ) (es : List Entry) → AllByRecursion (λ y. ident_cmp q y ≡ Less) (keys_of es) → position_from (test q) k es ≡ None
+pub none-all : (q : Ident) (k : ℕ) (es : List Entry) → AllByRecursion (λ y. ident_cmp q y ≡ Less) (keys_of es) → position_from (test q) k es ≡ None
 none-all q k [] h = refl
 none-all q k (e ∷ es) h = ap (λ o. cond (is_eq o) (Some k) (position_from (test q) (k + 1) es)) h.0 ∙ none-all q (k + 1) es h.1
 

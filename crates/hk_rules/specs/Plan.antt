@@ -13,8 +13,8 @@ use Rattle.hk_meta.specs.declared.answer.Split.{Split}
 use Rattle.hk_pattern.specs.declared.pattern.Pattern.{Pattern}
 use Rattle.hk_pattern.specs.declared.pattern.Pattern.TheVariants.{HasNoVersion}
 use Rattle.hk_pattern.specs.Pattern as pattern
-use Rattle.hk_rules.specs.declared.rules.Rule.{Rule}
-use Rattle.hk_rules.specs.declared.rules.RuleSource.TheVariants.{Create}
+use Rattle.hk_rules_file.specs.declared.rules.Rule.{Rule}
+use Rattle.hk_rules_file.specs.declared.rules.RuleSource.TheVariants.{Create}
 use Rattle.hk_rules.specs.declared.source_file.SourceFile.{SourceFile}
 use Rattle.hk_rules.specs.declared.owner.Owner.{Owner}
 use Rattle.hk_rules.specs.Pairs.{layout, pair_at, name_before}

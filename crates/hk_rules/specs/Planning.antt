@@ -12,7 +12,7 @@ use Rattle.hk_rules.specs.Clashes.{sites, clash_fault}
 use Rattle.hk_rules.specs.Headers.{header_of}
 use Rattle.hk_rules.specs.Outcomes.{unless, after, each}
 use Rattle.hk_rules.specs.PlanView.{PlanView}
-use Rattle.hk_rules.specs.Rules.{RulesView}
+use Rattle.hk_rules_file.specs.Rules.{RulesView}
 use Rattle.hk_rules.specs.Sources.{sources}
 use Rattle.hk_rules.specs.Targets.{target_of}
 use Rattle.hk_rules.specs.Universe.{Claim, universe}

@@ -7,9 +7,9 @@ use Rattle.hk_base.specs.Identifier.{Ident, ident_cmp, read_ident}
 use Rattle.hk_base.specs.declared.identifier.IdentFault.{IdentFault}
 use Rattle.hk_pattern.specs.declared.pattern.Pattern.{Pattern}
 use Rattle.hk_pattern.specs.Pattern.{matches}
-use Rattle.hk_rules.specs.declared.rules.Rule.{Rule}
-use Rattle.hk_rules.specs.declared.rules.RuleSource.{RuleSource}
-use Rattle.hk_rules.specs.declared.rules.RuleSource.TheVariants.{Match, Create}
+use Rattle.hk_rules_file.specs.declared.rules.Rule.{Rule}
+use Rattle.hk_rules_file.specs.declared.rules.RuleSource.{RuleSource}
+use Rattle.hk_rules_file.specs.declared.rules.RuleSource.TheVariants.{Match, Create}
 use Rattle.hk_rules.specs.declared.source_file.SourceFile.{SourceFile}
 use Rattle.hk_rules.specs.declared.owner.Owner.{Owner}
 

@@ -1,11 +1,9 @@
 // Targets that can't both be written.
 ghost use Rattle.std.specs.Prelude.{◌≡◌, ◌<◌, ◌++◌, Some, None, IfOk, OnOk, length, take, fold, bytes_eq, if◌then◌else◌};
 ghost use Rattle.std.specs.Option.{option_map, option_or, option_to_list};
-ghost use Rattle.std.specs.Ordering.{nat_cmp};
-ghost use Rattle.std.specs.Cmp.Lexicographic.{slice_cmp};
-ghost use Rattle.std.specs.BTreeMap.{get};
 ghost use Rattle.hk_base.specs.Bytes.{Bytes};
 ghost use Rattle.hk_rules.specs.Outcomes.{Passes};
+ghost use Rattle.hk_rules.specs.SiteMap.{site_in};
 ghost use Rattle.hk_rules.specs.Clashes as spec;
 
 use crate::owner::Owner;
@@ -18,7 +16,7 @@ use std::cmp::Ordering;
 use std::collections::BTreeMap;
 
 /// The first site of each target.
-type Sites = BTreeMap<Text, Shared<Site>>;
+type Sites = BTreeMap<Vec<u8>, Shared<Site>>;
 
 /// The sites by target, and the least two of one target.
 #[derive(Drop)]
@@ -45,7 +43,7 @@ fn check_sites(alloc: Global, all: &[Shared<Site>]) -> Result<(), Refusal<PlanFa
     ensures { Passes (spec.clash_fault all.now) result }
 {
     let placed = place(alloc, all)?;
-    let nested = nested_clash(alloc, &placed.sites, all)?;
+    let nested = nested_clash(&placed.sites, all)?;
     check_clashes(alloc, &placed.same, &nested)
 }
 
@@ -127,13 +125,13 @@ fn site(alloc: Global, id: &Identifier, target: &Text) -> Result<Shared<Site>, N
 }
 
 fn place(alloc: Global, all: &[Shared<Site>]) -> Result<Placed, NoMemory>
-    ensures sites { IfOk result (λ p. (path : Bytes) → get (slice_cmp nat_cmp) p.sites path ≡ spec.site_at all.now path) }
+    ensures sites { IfOk result (λ p. (path : Bytes) → site_in p.sites.entries path ≡ spec.site_at all.now path) }
     ensures same { IfOk result (λ p. p.same ≡ spec.same_clash all.now) }
 {
     let mut sites = BTreeMap::new(alloc);
     let mut same = None;
     for site in all {
-        let clash = clash_by(site, sites.get(&site.get().target))?;
+        let clash = clash_by(site, sites.get(site.get().target.as_slice()))?;
         same = lesser(same, clash);
         know(alloc, &mut sites, site)?;
     }
@@ -142,62 +140,51 @@ fn place(alloc: Global, all: &[Shared<Site>]) -> Result<Placed, NoMemory>
 
 /// The site is found at its target, where none was.
 fn know(alloc: Global, sites: &mut Sites, site: &Shared<Site>) -> Result<(), NoMemory>
-    ensures { OnOk result ((path : Bytes) → get (slice_cmp nat_cmp) sites.new path ≡ option_or (get (slice_cmp nat_cmp) sites.old path) (if bytes_eq site.now.target path then Some site.now else None)) }
+    ensures { OnOk result ((path : Bytes) → site_in sites.new.entries path ≡ option_or (site_in sites.old.entries path) (if bytes_eq site.now.target path then Some site.now else None)) }
 {
-    let target = &site.get().target;
+    let target = site.get().target.as_slice();
     if !sites.contains_key(target) {
-        let key = Text::from_slice(alloc, target.as_slice())?;
+        let key = Vec::from_slice(alloc, target)?;
         sites.insert(key, site.try_clone()?)?;
     }
     Ok(())
 }
 
-fn nested_clash(
-    alloc: Global,
-    sites: &Sites,
-    all: &[Shared<Site>],
-) -> Result<Option<Clash>, NoMemory>
-    ensures { IfOk result (λ c. c ≡ spec.nested_clash (get (slice_cmp nat_cmp) sites.now) all.now) }
+fn nested_clash(sites: &Sites, all: &[Shared<Site>]) -> Result<Option<Clash>, NoMemory>
+    ensures { IfOk result (λ c. c ≡ spec.nested_clash (site_in sites.now.entries) all.now) }
 {
     let mut best = None;
     for inner in all {
-        best = nested_in(alloc, sites, best, inner)?;
+        best = nested_in(sites, best, inner)?;
     }
     Ok(best)
 }
 
 fn nested_in(
-    alloc: Global,
     sites: &Sites,
     best: Option<Clash>,
     inner: &Shared<Site>,
 ) -> Result<Option<Clash>, NoMemory>
-    ensures { IfOk result (λ c. c ≡ spec.nested_in (get (slice_cmp nat_cmp) sites.now) best inner.now) }
+    ensures { IfOk result (λ c. c ≡ spec.nested_in (site_in sites.now.entries) best inner.now) }
 {
     let mut best = best;
     let target = inner.get().target.as_slice();
     for place in 0..target.len() {
-        let clash = clash_above(alloc, sites, inner, place)?;
+        let clash = clash_above(sites, inner, place)?;
         best = lesser(best, clash);
     }
     Ok(best)
 }
 
-fn clash_above(
-    alloc: Global,
-    sites: &Sites,
-    inner: &Shared<Site>,
-    place: usize,
-) -> Result<Option<Clash>, NoMemory>
+fn clash_above(sites: &Sites, inner: &Shared<Site>, place: usize) -> Result<Option<Clash>, NoMemory>
     requires { place < length inner.now.target }
-    ensures { IfOk result (λ c. c ≡ spec.clash_above (get (slice_cmp nat_cmp) sites.now) inner.now place) }
+    ensures { IfOk result (λ c. c ≡ spec.clash_above (site_in sites.now.entries) inner.now place) }
 {
     let target = inner.get().target.as_slice();
     if target[place] != b'/' {
         return Ok(None);
     }
-    let above = Text::from_slice(alloc, &target[..place])?;
-    clash_by(inner, sites.get(&above))
+    clash_by(inner, sites.get(&target[..place]))
 }
 
 fn clash_by(second: &Shared<Site>, first: Option<&Shared<Site>>) -> Result<Option<Clash>, NoMemory>

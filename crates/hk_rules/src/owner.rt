@@ -1,7 +1,7 @@
 // Who owns an item.
-use crate::rules::Rule;
 use crate::shared::Shared;
 use crate::source_file::SourceFile;
+use hk_rules_file::Rule;
 
 /// The rule that owns an item, and the file that the item is of. A created item has no file.
 #[derive(Drop)]

@@ -1,11 +1,13 @@
 // The plan that rules make of the files of a folder.
-ghost use Rattle.std.specs.Prelude.{◌≡◌, ◌≤◌, length};
+ghost use Rattle.std.specs.Prelude.{◌≡◌, ◌≤◌, length, IfOk};
 ghost use Rattle.std.specs.List.{find, list_all};
 ghost use Rattle.std.specs.List.Sorted.{IsStrictlySortedBy};
 ghost use Rattle.std.specs.Map.{keys_of};
 ghost use Rattle.std.specs.Option.{option_copied};
 ghost use Rattle.hk_base.specs.Answers.{Answers};
 ghost use Rattle.hk_base.specs.Identifier.{ident_cmp};
+ghost use Rattle.hk_rules_file.specs.Linked.{IsLinked};
+ghost use Rattle.hk_rules.specs.LinkedPlan.{IsLinkedPlan};
 ghost use Rattle.hk_rules.specs.Outcomes.{Passes};
 ghost use Rattle.hk_rules.specs.Planning as spec;
 
@@ -14,7 +16,6 @@ use crate::headers::headers_of;
 use crate::owner::Owner;
 use crate::plan::Plan;
 use crate::plan_fault::PlanFault;
-use crate::rules::Rules;
 use crate::sources::sources_of;
 use crate::targets::targets_of;
 use crate::universe::{MOST_ITEMS, universe};
@@ -22,6 +23,7 @@ use hk_base::{Identifier, Refusal, Text, is_path};
 use hk_chain::{Context, Step};
 use hk_meta::Split;
 use hk_pattern::Pattern;
+use hk_rules_file::Rules;
 use std::alloc::Global;
 
 /// What rules and contexts name by number.
@@ -44,6 +46,9 @@ struct Named {
 /// `NestedTarget` with the least target that lies above another, and the least below it; `NotYet` with the first item
 /// that has another step than `body`, `string`, `copy` and `make`.
 ///
+/// Where the numbers in the rules are in range and their names differ, as in rules that were read, they are in the plan:
+/// in each item's chain and in the contexts, with steps of these four kinds alone.
+///
 /// Each pattern is tested once on each path; then `n log n`.
 pub fn make_plan(
     alloc: Global,
@@ -51,6 +56,7 @@ pub fn make_plan(
     files: Vec<(Text, Text)>,
 ) -> Result<Plan, Refusal<PlanFault>>
     ensures plan { Answers (spec.plan_of rules files.items) result }
+    ensures linked { IsLinked rules → IfOk result (λ p. IsLinkedPlan p) }
 {
     check_names(alloc, &files)?;
     let sources = sources_of(alloc, files)?;

@@ -1,19 +1,23 @@
 // Which items there are, and who owns each.
-ghost use Rattle.std.specs.Prelude.{◌≡◌, IfOk, OnOk, fold, nat_lt, length, if◌then◌else◌};
+ghost use Rattle.std.specs.Prelude.{◌≡◌, true, None, IfOk, OnOk, fold, nat_lt, length, if◌then◌else◌};
 ghost use Rattle.std.specs.Option.{option_map};
+ghost use Rattle.std.specs.List.{list_any};
 ghost use Rattle.std.specs.List.Sorted.{IsStrictlySortedBy};
 ghost use Rattle.std.specs.Map.{keys_of};
-ghost use Rattle.hk_base.specs.Identifier.{ident_cmp};
+ghost use Rattle.hk_base.specs.Bytes.{Bytes};
+ghost use Rattle.hk_base.specs.Identifier.{ident_cmp, read_ident};
+ghost use Rattle.hk_pattern.specs.Pattern.{matches, is_id};
+ghost use Rattle.hk_rules.specs.Settled.{AllSettled, AreSettled, flags_at, has_key, has_path, is_settled, matched_by};
 ghost use Rattle.hk_rules.specs.Universe as spec;
 
 use crate::owner::Owner;
-use crate::rules::{Rule, RuleSource};
 use crate::shared::Shared;
 use crate::source_file::SourceFile;
 use hk_base::{Identifier, NoMemory, Refusal, Text};
 use hk_pattern::Pattern;
+use hk_rules_file::{Rule, RuleSource};
 use std::alloc::Global;
-use std::collections::BTreeMap;
+use std::collections::{BTreeMap, BTreeSet};
 
 /// The most items that a site may have.
 pub(crate) const MOST_ITEMS: usize = 65_535;
@@ -21,8 +25,19 @@ pub(crate) const MOST_ITEMS: usize = 65_535;
 /// The items, by identifier.
 type Owners = BTreeMap<Identifier, Owner>;
 
+/// By version, which sources need no further claim in it.
+type Settled = BTreeMap<Option<Text>, Vec<bool>>;
+
+/// The paths that a pattern matches without a version.
+#[derive(Drop)]
+enum Paths<'a> {
+    Listed(BTreeSet<Vec<u8>>),
+    Tested(&'a Pattern),
+}
+
 /// The items in identifier order, each with the first rule that claims it. Once there are more than a site may have, no
-/// further rule is looked at. Each pattern is tested once on each path, and there is one look-up for each match.
+/// further rule is looked at. Each pattern is tested once on each path that no earlier rule claims in the same version, a
+/// list of identifiers by a look-up, and there is one look-up for each path that it then claims.
 pub(crate) fn universe(
     alloc: Global,
     rules: Vec<Rule>,
@@ -55,9 +70,10 @@ fn owners_of(
     ensures { IfOk result (λ m. spec.Enough m.entries (spec.universe sources.now rules.items)) }
 {
     let mut owners = BTreeMap::new(alloc);
+    let mut settled = BTreeMap::new(alloc);
     for rule in rules {
         let rule = Shared::new(alloc, rule)?;
-        claim_next(alloc, &mut owners, &rule, sources)?;
+        claim_next(alloc, &mut owners, &mut settled, &rule, sources)?;
     }
     Ok(owners)
 }
@@ -66,13 +82,16 @@ fn owners_of(
 fn claim_next(
     alloc: Global,
     owners: &mut Owners,
+    settled: &mut Settled,
     rule: &Shared<Rule>,
     sources: &[(Text, Shared<SourceFile>)],
 ) -> Result<(), NoMemory>
-    ensures { OnOk result (owners.new.entries ≡ (if nat_lt 65535 (length owners.old.entries) then owners.old.entries else spec.claimed_all sources.now owners.old.entries rule.now)) }
+    requires { AllSettled sources.now owners.old.entries settled.old }
+    ensures owners { OnOk result (owners.new.entries ≡ (if nat_lt 65535 (length owners.old.entries) then owners.old.entries else spec.claimed_all sources.now owners.old.entries rule.now)) }
+    ensures settled { OnOk result (AllSettled sources.now owners.new.entries settled.new) }
 {
     if owners.len() <= MOST_ITEMS {
-        claim_all(alloc, owners, rule, sources)?;
+        claim_all(alloc, owners, settled, rule, sources)?;
     }
     Ok(())
 }
@@ -82,13 +101,18 @@ fn claim_next(
 fn claim_all(
     alloc: Global,
     owners: &mut Owners,
+    settled: &mut Settled,
     rule: &Shared<Rule>,
     sources: &[(Text, Shared<SourceFile>)],
 ) -> Result<(), NoMemory>
-    ensures { OnOk result (owners.new.entries ≡ spec.claimed_all sources.now owners.old.entries rule.now) }
+    requires { AllSettled sources.now owners.old.entries settled.old }
+    ensures owners { OnOk result (owners.new.entries ≡ spec.claimed_all sources.now owners.old.entries rule.now) }
+    ensures settled { OnOk result (AllSettled sources.now owners.new.entries settled.new) }
 {
     match &rule.get().source {
-        RuleSource::Match(pattern) => claim_matching(alloc, owners, rule, pattern, sources)?,
+        RuleSource::Match(pattern) => {
+            claim_matching(alloc, owners, settled, rule, pattern, sources)?
+        }
         RuleSource::Create(ids) => claim_created(alloc, owners, rule, ids.as_slice())?,
     }
     Ok(())
@@ -97,19 +121,118 @@ fn claim_all(
 fn claim_matching(
     alloc: Global,
     owners: &mut Owners,
+    settled: &mut Settled,
     rule: &Shared<Rule>,
     pattern: &Pattern,
     sources: &[(Text, Shared<SourceFile>)],
 ) -> Result<(), NoMemory>
-    ensures { OnOk result (owners.new.entries ≡ fold (λ items source. spec.claimed items (spec.matched rule.now pattern.now source)) owners.old.entries sources.now) }
+    requires { AllSettled sources.now owners.old.entries settled.old }
+    ensures owners { OnOk result (owners.new.entries ≡ fold (λ items source. spec.claimed items (spec.matched rule.now pattern.now source)) owners.old.entries sources.now) }
+    ensures settled { OnOk result (AllSettled sources.now owners.new.entries settled.new) }
 {
-    for source in sources {
-        let path = source.0.as_slice();
-        if pattern.matches_path(path, None) {
-            claim(alloc, owners, rule, Some(&source.1), path)?;
+    let paths = paths_of(alloc, pattern)?;
+    let version = version_of(rule.get());
+    let version = copy_of(alloc, version)?;
+    let mut flags = flags_in(alloc, settled, &version, sources.len())?;
+    claim_open(alloc, owners, &mut flags, rule, &paths, sources)?;
+    settled.insert(version, flags)?;
+    Ok(())
+}
+
+fn copy_of(alloc: Global, version: Option<&[u8]>) -> Result<Option<Text>, NoMemory>
+    ensures { IfOk result (λ v. v ≡ option_map (λ v. v.now) version.entry) }
+{
+    match version {
+        Some(version) => Ok(Some(Text::from_slice(alloc, version)?)),
+        None => Ok(None),
+    }
+}
+
+/// The flags of a version, none of them set where there are none yet.
+fn flags_in(
+    alloc: Global,
+    settled: &Settled,
+    version: &Option<Text>,
+    count: usize,
+) -> Result<Vec<bool>, NoMemory>
+    ensures { IfOk result (λ v. v.items ≡ flags_at settled.now version.now count) }
+{
+    match settled.get(version) {
+        Some(flags) => Ok(Vec::from_slice(alloc, flags)?),
+        None => Ok(vec![in alloc; false; count]?),
+    }
+}
+
+fn paths_of<'a>(alloc: Global, pattern: &'a Pattern) -> Result<Paths<'a>, NoMemory>
+    ensures { IfOk result (λ p. (path : Bytes) → has_path p path ≡ matches pattern.now path None) }
+{
+    match pattern {
+        Pattern::Ids(ids) => Ok(Paths::Listed(plain_paths(alloc, ids.as_slice())?)),
+        _ => Ok(Paths::Tested(pattern)),
+    }
+}
+
+/// The paths of the identifiers that have no version.
+fn plain_paths(alloc: Global, ids: &[Identifier]) -> Result<BTreeSet<Vec<u8>>, NoMemory>
+    ensures { IfOk result (λ set. (path : Bytes) → has_key set.keys path ≡ list_any (is_id path None) ids.now) }
+{
+    let mut paths = BTreeSet::new(alloc);
+    for id in ids {
+        if id.version().is_none() {
+            paths.insert(Vec::from_slice(alloc, id.path())?)?;
         }
     }
+    Ok(paths)
+}
+
+fn is_among(paths: &Paths, path: &[u8]) -> bool
+    ensures { result ≡ has_path paths.now path.now }
+{
+    match paths {
+        Paths::Listed(paths) => paths.contains(path),
+        Paths::Tested(pattern) => pattern.matches_path(path, None),
+    }
+}
+
+/// The rule claims the sources with these paths. Those that are settled in its version are left as they are.
+fn claim_open(
+    alloc: Global,
+    owners: &mut Owners,
+    flags: &mut Vec<bool>,
+    rule: &Shared<Rule>,
+    paths: &Paths,
+    sources: &[(Text, Shared<SourceFile>)],
+) -> Result<(), NoMemory>
+    requires { AreSettled sources.now owners.old.entries rule.now.version flags.old.items }
+    ensures owners { OnOk result (owners.new.entries ≡ fold (λ items source. spec.claimed items (matched_by (has_path paths.now) rule.now source)) owners.old.entries sources.now) }
+    ensures settled { OnOk result (AreSettled sources.now owners.new.entries rule.now.version flags.new.items) }
+{
+    for (index, source) in sources.iter().enumerate() {
+        let flag = claim_source(alloc, owners, flags[index], rule, paths, source)?;
+        flags[index] = flag;
+    }
     Ok(())
+}
+
+/// The rule claims a source, if it has one of these paths and isn't settled; whether it is settled then.
+fn claim_source(
+    alloc: Global,
+    owners: &mut Owners,
+    settled: bool,
+    rule: &Shared<Rule>,
+    paths: &Paths,
+    source: &(Text, Shared<SourceFile>),
+) -> Result<bool, NoMemory>
+    requires { settled ≡ true → is_settled owners.old.entries (read_ident source.now.0 rule.now.version) ≡ true }
+    ensures owners { OnOk result (owners.new.entries ≡ spec.claimed owners.old.entries (matched_by (has_path paths.now) rule.now source.now)) }
+    ensures settled { IfOk result (λ b. b ≡ true → is_settled owners.new.entries (read_ident source.now.0 rule.now.version) ≡ true) }
+{
+    let path = source.0.as_slice();
+    if settled || !is_among(paths, path) {
+        return Ok(settled);
+    }
+    claim(alloc, owners, rule, Some(&source.1), path)?;
+    Ok(true)
 }
 
 fn claim_created(

@@ -1,0 +1,6 @@
+pub mod IdForm
+pub mod Members
+pub mod Names
+pub mod PatternForm
+pub mod PatternText
+pub mod RouteForm

@@ -1,9 +1,0 @@
-use Rattle.std.proofs.Common.{◌≡◌}
-use Rattle.toml.specs.View.{members_view}
-use Rattle.hk_rules.specs.RuleForm.{first_other, is_rule_key}
-use Rattle.hk_rules.proofs.rule_form.other_key.Given as goal
-
-abbrev pub invariant-loop-key : goal.invariant-loop-key
-invariant-loop-key l =
-    (goal.iterator-loop-key).can_next l.key-iterator × (goal.iterator-loop-key).is_finite l.key-iterator
-    × (first_other is_rule_key (members_view l.key-iterator) ≡ first_other is_rule_key (members_view l.table.entries))

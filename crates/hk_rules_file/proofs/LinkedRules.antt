@@ -1,0 +1,174 @@
+-- Rules that are read have numbers in range, and their names differ.
+use Rattle.std.proofs.Common.{◌≡◌, ℕ, ◌+◌, ◌≤◌, true, false, List, [], ◌∷◌, ◌++◌, length, Option, Some, None, option_map, Result, Ok, Err, IfOk, refl, sym, ap, subst, ◌∙◌, arith, Global, String, string_bytes, string_cmp, BTreeMap}
+use Rattle.std.specs.Prelude.{bytes_eq, codes, is_some}
+use Rattle.std.specs.BTreeMap.{IsOrdered}
+use Rattle.std.specs.List.{AllByRecursion, IsDistinct}
+use Rattle.std.specs.List.Sorted.{IsStrictlySortedBy}
+use Rattle.std.specs.Map.{keys_of}
+use Rattle.std.specs.Ordering.{is_eq}
+use Rattle.std.specs.declared.cmp.Ordering.TheVariants.{Less}
+use Rattle.std.proofs.lemmas.Map.Text.{is_eq-slice_cmp}
+use Rattle.toml.specs.Data.{Data, Items, no_items, item, Members, as_table, get_member}
+use Rattle.toml.specs.View.{members_view, table_view}
+use Rattle.toml.specs.declared.value.Value.{Value}
+use Rattle.hk_base.specs.Answers.{Answers}
+use Rattle.hk_base.specs.Bytes.{Bytes}
+use Rattle.hk_base.specs.declared.refusal.Refusal.{Refusal}
+use Rattle.hk_base.specs.declared.refusal.Refusal.TheVariants.{Fault, NoMemory}
+use Rattle.hk_chain.specs.Context.{ContextView}
+use Rattle.hk_chain.specs.declared.chain.Step.{Step}
+use Rattle.hk_pattern.specs.declared.pattern.Pattern.{Pattern}
+use Rattle.hk_route.specs.declared.route.Route.{Route}
+use Rattle.hk_rules_file.specs.ContextForm.{names_of, contexts_in}
+use Rattle.hk_rules_file.specs.Linked.{IsStepWithin, IsLinkedChain, has_bytes, IsRouted, IsLinked}
+use Rattle.hk_rules_file.specs.Linking.{link_steps}
+use Rattle.hk_rules_file.specs.RuleForm.{draft_by, draft_in, source_in, steps_in, optional, first_other, is_rule_key, finished, numbered_rule, rule_by, next_rule, rules_from}
+use Rattle.hk_rules_file.specs.RulesForm.{whole, after_contexts, parts_in}
+use Rattle.hk_forms.specs.IdForm.{version_of}
+use Rattle.hk_forms.specs.RouteForm.{route_of}
+use Rattle.hk_rules_file.specs.Rules.{RulesView}
+use Rattle.hk_steps.specs.StepForm.{final_name, chain_by}
+use Rattle.hk_rules_file.specs.declared.draft_rule.DraftRule.{DraftRule}
+use Rattle.hk_steps.specs.declared.draft.DraftStep.{DraftStep}
+use Rattle.hk_rules_file.specs.declared.rules.Rule.{Rule}
+use Rattle.hk_rules_file.specs.declared.rules.RuleSource.{RuleSource}
+use Rattle.hk_rules_file.specs.declared.fault.RulesFault.{RulesFault}
+use Rattle.hk_rules_file.proofs.LinkedNumbers.{all-push, all-weaken, distinct-push, IsGrown, grown-same, grown-more}
+use Rattle.hk_rules_file.proofs.LinkedSteps.{Holds, IsReady, AreSaves, no-saves, AreLinkedSteps, chain-ready, within-more, link_steps-linked}
+use Rattle.hk_rules_file.proofs.LinkedRoutes.{route-bytes}
+use Rattle.hk_rules_file.proofs.LinkedContexts.{keys_in, AreContexts, contexts-more, contexts_in-contexts, contexts-distinct, contexts-many}
+
+-- ---- rules
+
+-- the steps and the route of a rule that is read
+record IsReadyRule (draft : DraftRule) : Type 0 where
+  steps : AllByRecursion IsReady draft.steps
+  route : IsRouted draft.route
+
+draft_by-ready : (n : ℕ) (key : Option Bytes) (source : Result RuleSource Bytes) (version : Option (Option Bytes)) (route : Option (Option Route)) (steps : Option (List DraftStep)) → Holds IsRouted route → Holds (AllByRecursion IsReady) steps → IfOk (draft_by n key source version route steps) IsReadyRule
+draft_by-ready n (Some key) source version route steps r h = tt
+draft_by-ready n None (Err key) version route steps r h = tt
+draft_by-ready n None (Ok source) None route steps r h = tt
+draft_by-ready n None (Ok source) (Some version) None steps r h = tt
+draft_by-ready n None (Ok source) (Some version) (Some route) None r h = tt
+draft_by-ready n None (Ok source) (Some version) (Some route) (Some steps) r h = record { steps = h; route = r }
+
+some-routed : (route : Option Route) → Holds (λ by. has_bytes by ≡ true) route → Holds IsRouted (option_map Some route)
+some-routed None h = tt
+some-routed (Some route) h = h
+
+routed : (d : Option Data) → Holds IsRouted (optional route_of d)
+routed None = tt
+routed (Some d) = some-routed (route_of d) (route-bytes d)
+
+draft_in-ready : (n : ℕ) (ms : Members) → IfOk (draft_in n ms) IsReadyRule
+unfolding draft_in steps_in
+draft_in-ready n ms =
+    draft_by-ready n (first_other is_rule_key ms) (source_in ms) (optional version_of (get_member (codes "version") ms)) (optional route_of (get_member (codes "route") ms)) (steps_in ms) (routed (get_member (codes "route") ms))
+    (chain-ready (is_some (get_member (codes "create") ms)) (get_member (codes "compile") ms))
+
+pub chain-more : (c d p q : ℕ) → c ≤ d → p ≤ q → (steps : List Step) → IsLinkedChain c p steps → IsLinkedChain d q steps
+chain-more c d p q le lq steps h = record { within = all-weaken (IsStepWithin c p) (IsStepWithin d q) (within-more c d p q le lq) steps h.within; names = h.names }
+
+-- a rule, and the patterns then
+record IsLinkedRule (names : List Bytes) (pool : List Pattern) (r : Rule × List Pattern) : Type 0 where
+  chain : IsLinkedChain (length names) (length r.1) r.0.chain
+  route : IsRouted r.0.route
+  grown : IsGrown pool r.1
+
+finished-linked : (names : List Bytes) (pool : List Pattern) (draft : DraftRule) → IsRouted draft.route → (r : Result (List Step × List Pattern) RulesFault) → IfOk r (AreLinkedSteps names pool) → IfOk (finished draft r) (IsLinkedRule names pool)
+finished-linked names pool draft to (Err fault) h = tt
+finished-linked names pool draft to (Ok r) h =
+    record {
+      chain = record { within = h.within; names = distinct-push bytes_eq _ final_name h.saves.apart h.saves.none_final };
+      route = to;
+      grown = h.grown;
+    }
+
+numbered-linked : (n : ℕ) (names : List Bytes) (pool : List Pattern) (r : Result DraftRule RulesFault) → IfOk r IsReadyRule → IfOk (numbered_rule n names pool r) (IsLinkedRule names pool)
+numbered-linked n names pool (Err fault) h = tt
+numbered-linked n names pool (Ok draft) h = finished-linked names pool draft h.route (link_steps n names draft.steps pool []) (link_steps-linked n names draft.steps pool [] h.steps (tt, no-saves))
+
+rule-linked : (n : ℕ) (names : List Bytes) (pool : List Pattern) (ms : Option Members) → IfOk (rule_by n names pool ms) (IsLinkedRule names pool)
+rule-linked n names pool None = tt
+rule-linked n names pool (Some ms) = numbered-linked n names pool (draft_in n ms) (draft_in-ready n ms)
+
+abbrev RulesWithin : ℕ → List Pattern → List Rule → Type 0
+RulesWithin contexts pool rules = AllByRecursion (λ rule. IsLinkedChain contexts (length pool) rule.chain) rules
+
+rules-more : (c d : ℕ) (pool next : List Pattern) → c ≤ d → IsGrown pool next → (rules : List Rule) → RulesWithin c pool rules → RulesWithin d next rules
+rules-more c d pool next le g rules h = all-weaken (λ rule. IsLinkedChain c (length pool) rule.chain) (λ rule. IsLinkedChain d (length next) rule.chain) (λ rule k. chain-more c d (length pool) (length next) le g.long rule.chain k) rules h
+
+abbrev Routed : Rule → Type 0
+Routed rule = IsRouted rule.route
+
+abbrev Done : List Bytes → List Pattern → List Rule → Type 0
+Done names pool done = RulesWithin (length names) pool done × AllByRecursion Routed done
+
+-- rules after those that are done, and the patterns then
+record AreLinkedRules (names : List Bytes) (pool : List Pattern) (r : List Rule × List Pattern) : Type 0 where
+  within : RulesWithin (length names) r.1 r.0
+  routes : AllByRecursion Routed r.0
+  grown : IsGrown pool r.1
+
+rules-grown : (names : List Bytes) (pool next : List Pattern) → IsGrown pool next → (r : Result (List Rule × List Pattern) RulesFault) → IfOk r (AreLinkedRules names next) → IfOk r (AreLinkedRules names pool)
+rules-grown names pool next g (Err fault) h = tt
+rules-grown names pool next g (Ok r) h = record { within = h.within; routes = h.routes; grown = grown-more pool next r.1 g h.grown }
+
+rules-next : (names : List Bytes) (pool : List Pattern) (done : List Rule) (rest : List Pattern → List Rule → Result (List Rule × List Pattern) RulesFault) → ((q : List Pattern) (d : List Rule) → Done names q d → IfOk (rest q d) (AreLinkedRules names q)) → Done names pool done → (r : Result (Rule × List Pattern) RulesFault) → IfOk r (IsLinkedRule names pool) → IfOk (next_rule rest done r) (AreLinkedRules names pool)
+rules-next names pool done rest later h (Err fault) k = tt
+rules-next names pool done rest later h (Ok r) k =
+    let old = rules-more (length names) (length names) pool r.1 (omega arith) k.grown done h.0 in
+    rules-grown names pool r.1 k.grown (rest r.1 (done ++ r.0 ∷ []))
+    (later r.1 (done ++ r.0 ∷ []) (all-push (λ rule. IsLinkedChain (length names) (length r.1) rule.chain) done r.0 old k.chain, all-push Routed done r.0 h.1 k.route))
+
+rules_from-linked : (names : List Bytes) (ds : Items) (n : ℕ) (pool : List Pattern) (done : List Rule) → Done names pool done → IfOk (rules_from names ds n pool done) (AreLinkedRules names pool)
+rules_from-linked names no_items n pool done h = record { within = h.0; routes = h.1; grown = grown-same pool }
+rules_from-linked names (item d ds) n pool done h =
+    rules-next names pool done (rules_from names ds (n + 1)) (λ q r k. rules_from-linked names ds (n + 1) q r k) h (rule_by n names pool (as_table d)) (rule-linked n names pool (as_table d))
+
+-- ---- whole rules
+
+whole-linked : (ms : Members) → IsDistinct bytes_eq (keys_in ms) → (c : List ContextView × List Pattern) → AreContexts (names_of ms) ms c → (r : Result (List Rule × List Pattern) RulesFault) → IfOk r (AreLinkedRules (names_of ms) c.1) → IfOk (whole c.0 r) IsLinked
+whole-linked ms d c h (Err fault) k = tt
+whole-linked ms d c h (Ok r) k =
+    let many = contexts-many ms c h in
+    record {
+      routes = k.routes;
+      chains = rules-more (length (names_of ms)) (length c.0) r.1 r.1 many (grown-same r.1) r.0 k.within;
+      named = record {
+        within = contexts-more (length (names_of ms)) (length c.0) c.1 r.1 many k.grown c.0 h.within;
+        names = contexts-distinct (names_of ms) ms c d h;
+        texts = k.grown.apart h.texts;
+      };
+    }
+
+after-linked : (ms : Members) (ds : Items) → IsDistinct bytes_eq (keys_in ms) → (r : Result (List ContextView × List Pattern) RulesFault) → IfOk r (AreContexts (names_of ms) ms) → IfOk (after_contexts (names_of ms) ds r) IsLinked
+after-linked ms ds d (Err fault) h = tt
+after-linked ms ds d (Ok c) h = whole-linked ms d c h (rules_from (names_of ms) ds 1 c.1 []) (rules_from-linked (names_of ms) ds 1 c.1 [] (tt, tt))
+
+-- what is read of a table in which no key stands twice, and of an array
+parts_in-linked : (ms : Members) (ds : Items) → IsDistinct bytes_eq (keys_in ms) → IfOk (parts_in ms ds) IsLinked
+parts_in-linked ms ds d = after-linked ms ds d (contexts_in (names_of ms) ms) (contexts_in-contexts (names_of ms) ms)
+
+abbrev Entry : Type 0
+Entry = String Global × Value
+
+keys-differ : (k : String Global) (es : List Entry) → AllByRecursion (λ y. string_cmp k y ≡ Less) (keys_of es) → AllByRecursion (λ y. bytes_eq (string_bytes k) y ≡ false) (keys_in (members_view es))
+keys-differ k [] h = tt
+keys-differ k (e ∷ es) h = (sym (is_eq-slice_cmp (string_bytes k) (string_bytes e.0)) ∙ ap is_eq h.0, keys-differ k es h.1)
+
+keys-distinct : (es : List Entry) → IsStrictlySortedBy string_cmp (keys_of es) → IsDistinct bytes_eq (keys_in (members_view es))
+unfolding IsDistinct IsStrictlySortedBy
+keys-distinct [] h = tt
+keys-distinct (e ∷ es) h = (keys-differ e.0 es h.0, keys-distinct es h.1)
+
+answer-linked : (wanted : Result RulesView RulesFault) (r : Result RulesView (Refusal RulesFault)) → Answers wanted r → IfOk wanted IsLinked → IfOk r IsLinked
+answer-linked wanted (Ok rules) is h = subst (λ w. IfOk w IsLinked) is h
+answer-linked wanted (Err fault) is h = tt
+
+-- what is read of a table and of an array is linked
+pub parts-linked : (m : BTreeMap (String Global) Value) (ds : Items) (names : List Bytes) (r : Result RulesView (Refusal RulesFault)) → IsOrdered string_cmp m → names ≡ names_of (table_view m) → Answers (after_contexts names ds (contexts_in names (table_view m))) r → IfOk r IsLinked
+parts-linked m ds names r ordered are is =
+    answer-linked (parts_in (table_view m) ds) r (subst (λ ns. Answers (after_contexts ns ds (contexts_in ns (table_view m))) r) are is)
+    (parts_in-linked (table_view m) ds (keys-distinct m.entries ordered))

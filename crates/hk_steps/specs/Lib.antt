@@ -1,0 +1,2 @@
+pub mod FieldForm
+pub mod StepForm
