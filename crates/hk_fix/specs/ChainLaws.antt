@@ -4,10 +4,11 @@ use Rattle.std.specs.List.{AllByRecursion, list_any}
 use Rattle.std.proofs.lemmas.List.Elements.{All-from_recursion, recursion_from_All}
 use Rattle.hk_chain.specs.declared.page.Page.{Page}
 use Rattle.hk_chain.specs.Layout.{Shape, pairs, item_of, final_of}
+use Rattle.hk_chain.specs.Snapshots.{Ascending}
 use Rattle.hk_fix.specs.Pages.{Pages, Begins, lacking, all_pages}
 use Rattle.hk_fix.specs.Task.{Task, gives, fails, asks, notes, used, saved, Mark, done, run, answered}
 use Rattle.hk_fix.specs.Run.{Save, asks_of, saves_of, page_in, snapshot, AllAbove, Rising, IsRun}
-use Rattle.hk_fix.specs.Chains.{NothingLeft, NextIs, Saves, Ascending, AreChains}
+use Rattle.hk_fix.specs.Chains.{NothingLeft, NextIs, Saves, AreChains}
 use Rattle.hk_fix.specs.TaskLaws.{run_waits, run_some, run_once, run_still, run_same, run_grows, run_within}
 
 -- the pairs of the saves of a log

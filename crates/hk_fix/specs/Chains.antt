@@ -1,8 +1,9 @@
 -- What makes the runs of tasks those of a family of compilers.
-use Rattle.std.specs.Prelude.{◌≡◌, ◌≢◌, ℕ, ◌<◌, true, List, [], ◌∷◌, nat_eq}
-use Rattle.std.specs.List.{AllByRecursion, IsDistinct, list_any}
+use Rattle.std.specs.Prelude.{◌≡◌, ℕ, ◌<◌, List, [], ◌∷◌, nat_eq}
+use Rattle.std.specs.List.{AllByRecursion, IsDistinct}
 use Rattle.hk_chain.specs.declared.page.Page.{Page}
-use Rattle.hk_chain.specs.Layout.{Shape, pairs, item_of, final_of}
+use Rattle.hk_chain.specs.Layout.{Shape, pairs}
+use Rattle.hk_chain.specs.Snapshots.{AreSnapshots}
 use Rattle.hk_fix.specs.Task.{Task, gives, fails, asks, notes, used, saved}
 
 -- P holds of each group that a task may ask for
@@ -27,17 +28,6 @@ Saves ps (fails e) = Unit {0}
 Saves ps (asks qs f) = (xs : List Page) → Saves ps (f xs)
 Saves ps (notes (used n) t) = Saves ps t
 Saves ps (notes (saved p x) t) = NextIs p ps (λ qs. Saves qs t)
-
--- the numbers rise
-abbrev pub Ascending : List ℕ → Type 0
-Ascending [] = Unit {0}
-Ascending (p ∷ ps) = AllByRecursion (λ q. p < q) ps × Ascending ps
-
--- these are the pairs of an item in order, without the last
-pub record AreSnapshots (lay : Shape) (i : ℕ) (ps : List ℕ) : Type 0 where
-  pub own : AllByRecursion (λ p. (p < pairs lay) × (item_of lay p ≡ i) × (p ≢ final_of lay i)) ps
-  pub rising : Ascending ps
-  pub all : (p : ℕ) → p < pairs lay → item_of lay p ≡ i → p ≢ final_of lay i → list_any (nat_eq p) ps ≡ true
 
 -- each item's task asks for pairs of the layout, for none twice in a group, and saves the item's pairs
 pub record AreChains (lay : Shape) (task : ℕ → Task Page) (snapshots : ℕ → List ℕ) : Type 0 where

@@ -1,0 +1,11 @@
+pub mod Board
+pub mod Boards
+pub mod Lawful
+pub mod Mutual
+pub mod MutualLaws
+pub mod Places
+pub mod Progress
+pub mod Rosters
+pub mod Stacks
+pub mod Standings
+pub mod Turns
