@@ -1,0 +1,14 @@
+pub mod Acting
+pub mod Asking
+pub mod Chain
+pub mod Groups
+pub mod Keeping
+pub mod Laws
+pub mod Leading
+pub mod LinkedRuns
+pub mod Machine
+pub mod Noted
+pub mod Runnable
+pub mod RunnableOnce
+pub mod Told
+pub mod Working

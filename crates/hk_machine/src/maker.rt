@@ -1,0 +1,57 @@
+// What makes the machines of a plan.
+ghost use Rattle.std.specs.Prelude.{◌≡◌, length};
+ghost use Rattle.hk_rules.specs.LinkedPlan.{IsLinkedPlan};
+ghost use Rattle.hk_rules.specs.Plan.{lookups};
+ghost use Rattle.hk_machine.specs.Runnable.{IsRunnable};
+ghost use Rattle.hk_machine.specs.RunnableOnce.{runnable-prop};
+
+use crate::machine::Machine;
+use hk_base::NoMemory;
+use hk_chain::ItemNo;
+use hk_fix::Maker;
+use hk_rules::{Plan, Shared};
+use std::alloc::Global;
+
+/// Makes the machines of a plan.
+#[derive(Drop)]
+pub struct PlanMaker {
+    plan: Shared<Plan>,
+    ghost runs: { IsRunnable (lookups plan) (length plan.items) (length plan.patterns) } by { runnable-prop (lookups plan) (length plan.items) (length plan.patterns) },
+}
+
+impl PlanMaker {
+    /// What makes the machines of this plan. Constant.
+    pub fn new(plan: Shared<Plan>) -> PlanMaker
+        requires { IsLinkedPlan plan }
+        ensures { result.plan ≡ plan }
+    {
+        runs(plan.get());
+        PlanMaker { plan }
+    }
+}
+
+/// The chains of a linked plan are compilers.
+pub fn runs(plan: &Plan)
+    requires { IsLinkedPlan plan.now }
+    ensures { IsRunnable (lookups plan.now) (length plan.now.items) (length plan.now.patterns) }
+{
+    let _items = plan.layout().get().items();
+}
+
+impl Maker for PlanMaker {
+    type M = Machine;
+
+    ghost common_is = { λ m. m.plan };
+
+    fn common(&self, _alloc: Global) -> Result<Shared<Plan>, NoMemory> {
+        self.plan.try_clone()
+    }
+
+    fn make(&self, alloc: Global, item: ItemNo) -> Result<Machine, NoMemory> {
+        let plan = self.plan.try_clone()?;
+        let machine = Machine::new(alloc, plan, item)?;
+        Ok(machine)
+    }
+
+    ghost made = { λ m. m.runs };
+}
