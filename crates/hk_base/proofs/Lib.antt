@@ -1,3 +1,4 @@
 pub mod Ascending
 pub mod Both
 pub mod Entries
+pub mod Keys

@@ -148,7 +148,8 @@ fn version_fault(version: Option<&[u8]>) -> Option<IdentFault>
     }
 }
 
-fn is_version(version: &[u8]) -> bool
+/// Whether an identifier may have this version: 1 to 64 bytes without control characters. Linear.
+pub fn is_version(version: &[u8]) -> bool
     ensures { result ≡ spec.is_version version.now }
 {
     !version.is_empty() && version.len() <= 64 && are_plain(version)

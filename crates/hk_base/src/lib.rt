@@ -2,14 +2,15 @@
 #![tactic(auto)]
 
 mod identifier;
+mod key;
 mod line;
 mod refusal;
+mod shared;
 mod text;
 
-pub use identifier::{IdentFault, Identifier, is_path};
+pub use identifier::{IdentFault, Identifier, is_path, is_version};
+pub use key::is_key;
 pub use line::{Line, next_line};
 pub use refusal::{NoMemory, Refusal};
+pub use shared::Shared;
 pub use text::Text;
-
-#[cfg(test)]
-mod tests;

@@ -5,3 +5,4 @@ pub mod Kept
 pub mod Layout
 pub mod Marks
 pub mod Snapshots
+pub mod Traces

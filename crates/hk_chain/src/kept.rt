@@ -1,6 +1,7 @@
 // Pages and facts that are known before a run begins.
 ghost use Rattle.std.specs.Prelude.{◌≡◌, IfOk, None, replicate};
-ghost use Rattle.hk_chain.specs.Kept.{IsKept, none_kept};
+ghost use Rattle.hk_chain.specs.Kept.{IsKept, at_place, none_kept};
+ghost use Rattle.hk_chain.specs.Traces.{AllAreFacts};
 
 use crate::facts::Facts;
 use crate::layout::Layout;
@@ -29,11 +30,61 @@ impl Kept {
     pub fn none(alloc: Global, layout: &Layout) -> Result<Kept, NoMemory>
         ensures value { IfOk result (λ k. k ≡ none_kept layout.now) }
         ensures kept { IsKept layout.now (none_kept layout.now) }
+        ensures facts { AllAreFacts layout.now (at_place (none_kept layout.now).facts) }
     {
         Ok(Kept {
             pages: no_pages(alloc, layout.pairs())?,
             facts: no_facts(alloc, layout.items())?,
         })
+    }
+
+    /// The same pages, shared, and the same facts again. `NoMemory` only for want of memory. Linear in the pairs and the
+    /// facts.
+    pub fn copy(&self, alloc: Global) -> Result<Kept, NoMemory>
+        ensures { IfOk result (λ k. k ≡ self.now) }
+    {
+        Ok(Kept {
+            pages: same_pages(alloc, &self.pages)?,
+            facts: same_facts(alloc, &self.facts)?,
+        })
+    }
+}
+
+fn same_pages(alloc: Global, pages: &[Option<PageRef>]) -> Result<Vec<Option<PageRef>>, NoMemory>
+    ensures { IfOk result (λ v. v.items ≡ pages.now) }
+{
+    let mut same = Vec::with_capacity(alloc, pages.len())?;
+    for page in pages {
+        same.push(same_page(page)?)?;
+    }
+    Ok(same)
+}
+
+fn same_page(page: &Option<PageRef>) -> Result<Option<PageRef>, NoMemory>
+    ensures { IfOk result (λ p. p ≡ page.now) }
+{
+    match page {
+        Some(page) => Ok(Some(page.try_clone()?)),
+        None => Ok(None),
+    }
+}
+
+fn same_facts(alloc: Global, facts: &[Option<Facts>]) -> Result<Vec<Option<Facts>>, NoMemory>
+    ensures { IfOk result (λ v. v.items ≡ facts.now) }
+{
+    let mut same = Vec::with_capacity(alloc, facts.len())?;
+    for known in facts {
+        same.push(facts_of(alloc, known)?)?;
+    }
+    Ok(same)
+}
+
+fn facts_of(alloc: Global, facts: &Option<Facts>) -> Result<Option<Facts>, NoMemory>
+    ensures { IfOk result (λ f. f ≡ facts.now) }
+{
+    match facts {
+        Some(facts) => Ok(Some(facts.copy(alloc)?)),
+        None => Ok(None),
     }
 }
 

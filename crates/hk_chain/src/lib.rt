@@ -10,8 +10,6 @@ mod layout;
 mod numbers;
 mod page;
 mod sends;
-#[cfg(test)]
-mod tests;
 
 pub use chain::{Chain, Step};
 pub use context::{Context, Field, Order};

@@ -15,6 +15,3 @@ mod url;
 pub use relative::{links, relativize};
 pub use teasers::teaser;
 pub use url::url_of;
-
-#[cfg(test)]
-mod tests;

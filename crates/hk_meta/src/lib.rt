@@ -19,6 +19,3 @@ pub use date_format::format_date;
 pub use date_pattern::pattern_ok;
 pub use header::{read_companion, split};
 pub use metadata::{Metadata, merge};
-
-#[cfg(test)]
-mod tests;

@@ -9,8 +9,6 @@ mod mem_tree;
 mod sink;
 mod still_sink;
 mod still_tree;
-#[cfg(test)]
-mod tests;
 mod tree;
 
 pub use call::{CallKind, Fail};

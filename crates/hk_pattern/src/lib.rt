@@ -10,8 +10,3 @@ mod walk;
 pub use glob::{Glob, GlobFault};
 pub use pattern::Pattern;
 pub use sqlite_items::{Boxed, Items};
-
-#[cfg(test)]
-mod plain;
-#[cfg(test)]
-mod tests;

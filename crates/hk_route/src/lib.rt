@@ -5,6 +5,3 @@ mod rewriting;
 mod route;
 
 pub use route::{Route, RouteFault, target};
-
-#[cfg(test)]
-mod tests;

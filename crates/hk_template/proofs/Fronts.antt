@@ -1,8 +1,9 @@
 -- Fronts and ends of texts.
-use Rattle.std.proofs.Common.{◌≡◌, ℕ, ◌-◌, Bool, true, false, if◌then◌else◌, [], ◌∷◌, ◌++◌, length, take, drop, refl, ap, sym, ◌∙◌, arith, codes, bytes_eq, Option, Some, None, IfSome, length-append, take-append-drop, ◌==◌, option_and_then}
+use Rattle.std.proofs.Common.{◌≡◌, ◌-◌, Bool, true, false, if◌then◌else◌, [], ◌∷◌, ◌++◌, length, take, drop, refl, ap, sym, ◌∙◌, arith, codes, bytes_eq, Option, Some, None, IfSome, length-append, take-append-drop, option_and_then}
 use Rattle.std.specs.List.{list_all}
 use Rattle.hk_base.specs.Bytes.{Bytes}
-use Rattle.hk_template.specs.Key.{ends_with_dash, is_key_byte}
+use Rattle.hk_base.specs.Key.{ends_with_dash, is_key_byte}
+use Rattle.hk_base.proofs.Keys.{ends_by}
 use Rattle.hk_template.specs.Cut.{after_front, before_end, between}
 use Rattle.hk_template.proofs.Bools.{bytes_equal, bytes_same, no_false}
 
@@ -50,12 +51,6 @@ between_sound front end bytes = by_rest (after_front front bytes) (after_front_s
     by_rest : (r : Option Bytes) → IfSome r (λ rest. bytes ≡ front ++ rest) → IfSome (option_and_then (before_end end) r) (λ middle. bytes ≡ front ++ (middle ++ end))
     by_rest (Some rest) e = by_middle rest e (before_end end rest) (before_end_sound end rest)
     by_rest None e = tt
-
--- a text that ends in another byte than a dash
-pub ends_by : (xs : Bytes) (c : ℕ) → ends_with_dash (xs ++ c ∷ []) ≡ (c == 45)
-ends_by [] c = refl
-ends_by (x ∷ []) c = refl
-ends_by (x ∷ y ∷ xs) c = ends_by (y ∷ xs) c
 
 pub no_end_dash : (bytes : Bytes) → ends_with_dash bytes ≡ false → before_end (codes "-") bytes ≡ None
 no_end_dash bytes h = by_rest (before_end (codes "-") bytes) (before_end_sound (codes "-") bytes)

@@ -11,8 +11,7 @@ use Rattle.hk_template.specs.Fault.{first_fault}
 use Rattle.hk_template.specs.Growing.{State, Waiting, waits, waits_if, flushed, with_node, word_step, grown_from, grown_on, read_tree, start}
 use Rattle.hk_template.specs.Parsing.{IsOnlyTree, IsFaulty, Parses, OneTree, ReadsAgain, TreeOrFault, AsFunction}
 use Rattle.hk_template.specs.Stepping.{Grows}
-use Rattle.hk_template.specs.View.{tree_of}
-use Rattle.hk_template.specs.declared.node.Template.{Template}
+use Rattle.hk_template.specs.declared.template.Template.{Template}
 use Rattle.hk_base.specs.declared.refusal.Refusal.{Refusal}
 use Rattle.hk_base.specs.declared.refusal.Refusal.TheVariants.{Fault, NoMemory}
 use Rattle.hk_template.proofs.Growth.{grow, grow_tree, grow_tokens}
@@ -111,7 +110,7 @@ tree_or_fault bytes = tree_or_fault_by bytes (read_tree bytes) refl
 
 -- what grows is what reading answers
 pub parsed : (bytes : Bytes) (r : Result Template (Refusal TemplateFault)) → Grows (read_tree bytes) r → Parses bytes r
-parsed bytes (Ok t) e = only_tree bytes (tree_of t) e
+parsed bytes (Ok t) e = only_tree bytes t e
 parsed bytes (Err (Fault fault)) e = faulty bytes fault e
 parsed bytes (Err NoMemory) e = tt
 

@@ -5,7 +5,8 @@ use Rattle.hk_template.specs.declared.fault.TemplateFault.{TemplateFault}
 use Rattle.hk_template.specs.Token.{Word, key, if_, else_, endif, for_, sep, endfor, partial}
 use Rattle.hk_template.specs.Tree.{Node, Nodes, no_nodes, node, joined, text_node, dollar_node, key_node, if_node, if_else_node, for_node, for_sep_node, partial_node, node_tokens, nodes_tokens, depth, nodes_depth, Plain, plain_text, plain_dollar, plain_tag}
 use Rattle.hk_template.specs.Growing.{Head, Frame, if_frame, else_frame, for_frame, sep_frame, State, with_node, opening, word_step, finished, head_of, start}
-use Rattle.hk_template.proofs.Nodes.{joined-assoc, joined-nil, nodes_tokens-joined}
+use Rattle.hk_template.specs.TreeCode.{joined-nil}
+use Rattle.hk_template.proofs.Nodes.{joined-assoc, nodes_tokens-joined}
 
 abbrev pub on_state : (State → Result Nodes TemplateFault) → Result State TemplateFault → Result Nodes TemplateFault
 on_state onward (Ok st) = onward st

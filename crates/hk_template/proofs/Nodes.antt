@@ -11,10 +11,6 @@ pub joined-assoc : (a b c : Nodes) → joined (joined a b) c ≡ joined a (joine
 joined-assoc no_nodes b c = refl
 joined-assoc (node n ns) b c = ap (node n) (joined-assoc ns b c)
 
-pub joined-nil : (a : Nodes) → joined a no_nodes ≡ a
-joined-nil no_nodes = refl
-joined-nil (node n ns) = ap (node n) (joined-nil ns)
-
 pub nodes_tokens-joined : (a b : Nodes) → nodes_tokens (joined a b) ≡ nodes_tokens a ++ nodes_tokens b
 nodes_tokens-joined no_nodes b = refl
 nodes_tokens-joined (node n ns) b = ap (λ ps. node_tokens n ++ ps) (nodes_tokens-joined ns b) ∙ sym (append_assoc (node_tokens n) (nodes_tokens ns) (nodes_tokens b))

@@ -2,11 +2,12 @@
 use Rattle.std.proofs.Common.{◌≡◌, ℕ, Bool, true, false, ◌||◌, not, ◌==◌, [], ◌∷◌, ◌++◌, refl, ap, sym, ◌∙◌, codes, Option, Some, None, IfSome, option_map, append-nil, append_assoc, eqb-true}
 use Rattle.std.specs.List.{list_all}
 use Rattle.hk_base.specs.Bytes.{Bytes}
-use Rattle.hk_template.specs.Key.{is_letter, is_key_byte, is_key, begins_with_letter, ends_with_dash}
+use Rattle.hk_base.specs.Key.{is_letter, is_key_byte, is_key, begins_with_letter, ends_with_dash}
 use Rattle.hk_template.specs.Token.{Word, key, if_, else_, endif, for_, sep, endfor, partial, Token, text, dollar, tag, word_text, tag_text, dash, is_proper}
 use Rattle.hk_template.specs.Cut.{after_front, before_end, word_of, tag_with, tag_after, tag_of}
 use Rattle.hk_template.proofs.Bools.{first_true, second_true, not_true, or_second, no_false, all_append, all_weaker}
-use Rattle.hk_template.proofs.Fronts.{after_front_finds, after_front_sound, before_end_finds, before_end_sound, no_end_dash, ends_by}
+use Rattle.hk_template.proofs.Fronts.{after_front_finds, after_front_sound, before_end_finds, before_end_sound, no_end_dash}
+use Rattle.hk_base.proofs.Keys.{ends_by}
 use Rattle.hk_template.proofs.Words.{Spells, word_sound, word_found, key_end, key_begin, key_bytes}
 
 -- these bytes spell this tag

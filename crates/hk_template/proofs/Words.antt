@@ -2,7 +2,8 @@
 use Rattle.std.proofs.Common.{◌≡◌, Bool, true, false, if◌then◌else◌, refl, ◌∙◌, codes, bytes_eq, Option, Some, None, IfSome}
 use Rattle.std.specs.List.{list_all}
 use Rattle.hk_base.specs.Bytes.{Bytes}
-use Rattle.hk_template.specs.Key.{is_key_byte, is_key, is_word, is_bare_key, is_partial_path, begins_with_letter, ends_with_dash}
+use Rattle.hk_base.specs.Key.{is_key_byte, is_key, begins_with_letter, ends_with_dash}
+use Rattle.hk_template.specs.Key.{is_word, is_bare_key, is_partial_path}
 use Rattle.hk_template.specs.Token.{Word, key, if_, else_, endif, for_, sep, endfor, partial, word_text, is_proper}
 use Rattle.hk_template.specs.Cut.{after_front, between, first_word, fixed_word, word_if, word_of}
 use Rattle.hk_template.proofs.Bools.{first_true, second_true, not_true, or_first, or_second, bytes_equal}

@@ -3,7 +3,8 @@ use Rattle.std.specs.Prelude.{ℕ, zero, suc, ◌+◌, ◌-◌, Bool, true, fals
 use Rattle.std.specs.Option.{option_and_then, option_map}
 use Rattle.std.specs.List.{position_or_len}
 use Rattle.hk_base.specs.Bytes.{Bytes}
-use Rattle.hk_template.specs.Key.{is_key, is_bare_key, is_partial_path}
+use Rattle.hk_base.specs.Key.{is_key}
+use Rattle.hk_template.specs.Key.{is_bare_key, is_partial_path}
 use Rattle.hk_template.specs.Token.{Word, key, if_, else_, endif, for_, sep, endfor, partial, Token, text, dollar, tag}
 
 -- how many bytes stand before the first dollar sign

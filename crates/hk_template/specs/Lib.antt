@@ -11,4 +11,5 @@ pub mod Stop
 pub mod Template
 pub mod Token
 pub mod Tree
+pub mod TreeCode
 pub mod View

@@ -4,12 +4,11 @@ use Rattle.hk_base.specs.Bytes.{Bytes}
 use Rattle.hk_base.specs.declared.refusal.Refusal.{Refusal}
 use Rattle.hk_base.specs.declared.refusal.Refusal.TheVariants.{Fault, NoMemory}
 use Rattle.hk_template.specs.declared.fault.TemplateFault.{TemplateFault}
-use Rattle.hk_template.specs.declared.node.Template.{Template}
+use Rattle.hk_template.specs.declared.template.Template.{Template}
 use Rattle.hk_template.specs.Tree.{Nodes}
 use Rattle.hk_template.specs.Template.{IsTemplate, IsPrintable, tree_text}
 use Rattle.hk_template.specs.Fault.{first_fault}
 use Rattle.hk_template.specs.Growing.{read_tree}
-use Rattle.hk_template.specs.View.{tree_of}
 
 -- the text's only tree
 pub record IsOnlyTree (bytes : Bytes) (tree : Nodes) : Type 0 where
@@ -25,7 +24,7 @@ pub record IsFaulty (bytes : Bytes) (fault : TemplateFault) : Type 0 where
 
 -- the one tree of a text, or its first fault where it has no tree, or want of memory
 abbrev pub Parses : Bytes → Result Template (Refusal TemplateFault) → Type 0
-Parses bytes (Ok t) = IsOnlyTree bytes (tree_of t)
+Parses bytes (Ok t) = IsOnlyTree bytes t
 Parses bytes (Err (Fault fault)) = IsFaulty bytes fault
 Parses bytes (Err NoMemory) = Unit {0}
 

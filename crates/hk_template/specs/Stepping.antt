@@ -6,11 +6,10 @@ use Rattle.hk_base.specs.declared.refusal.Refusal.TheVariants.{Fault, NoMemory}
 use Rattle.hk_template.specs.declared.fault.TemplateFault.{TemplateFault}
 use Rattle.hk_template.specs.declared.fault.TemplateFault.TheVariants.{TooDeep}
 use Rattle.hk_template.specs.declared.frame.Head.{Head as Begun}
-use Rattle.hk_template.specs.declared.node.Template.{Template}
+use Rattle.hk_template.specs.declared.template.Template.{Template}
 use Rattle.hk_template.specs.Tree.{Nodes, no_nodes}
 use Rattle.hk_template.specs.Growing.{State}
 use Rattle.hk_template.specs.ParserViews.{head_view}
-use Rattle.hk_template.specs.View.{tree_of}
 
 -- the wanted state is the new one, or the wanted fault is answered
 abbrev pub Steps : {S A : Type 0} → Result S TemplateFault → S → Result A (Refusal TemplateFault) → Type 0
@@ -20,7 +19,7 @@ Steps wanted new (Err NoMemory) = Unit {0}
 
 -- the wanted tree or fault is answered
 abbrev pub Grows : Result Nodes TemplateFault → Result Template (Refusal TemplateFault) → Type 0
-Grows wanted (Ok t) = wanted ≡ Ok (tree_of t)
+Grows wanted (Ok t) = wanted ≡ Ok t
 Grows wanted (Err (Fault fault)) = wanted ≡ Err fault
 Grows wanted (Err NoMemory) = Unit {0}
 

@@ -2,7 +2,8 @@
 use Rattle.std.specs.Prelude.{Bool, true, false, ◌&&◌, not, ◌==◌, List, [], ◌∷◌, ◌++◌, codes}
 use Rattle.std.specs.List.{list_all}
 use Rattle.hk_base.specs.Bytes.{Bytes}
-use Rattle.hk_template.specs.Key.{is_key, is_bare_key, is_partial_path}
+use Rattle.hk_base.specs.Key.{is_key}
+use Rattle.hk_template.specs.Key.{is_bare_key, is_partial_path}
 
 pub data Word : Type 0 where
   key : Bytes → Word

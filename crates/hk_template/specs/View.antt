@@ -4,7 +4,6 @@ use Rattle.std.specs.declared.alloc.Global.{Global}
 use Rattle.hk_base.specs.Bytes.{Bytes}
 use Rattle.hk_template.specs.declared.node.Node.{Node as Code, fold-Node}
 use Rattle.hk_template.specs.declared.node.Node.TheOpen.{Node-F}
-use Rattle.hk_template.specs.declared.node.Template.{Template}
 use Rattle.hk_template.specs.Tree.{Node, Nodes, text_node, dollar_node, key_node, if_node, if_else_node, for_node, for_sep_node, partial_node, no_nodes, node}
 
 abbrev pub nodes_of : List Node → Nodes
@@ -34,7 +33,3 @@ node_view = fold-Node Node view_step
 -- a list of nodes of the code as nodes
 abbrev pub nodes_view : List Code → Nodes
 nodes_view ns = nodes_of (map node_view ns)
-
--- the tree of a template
-abbrev pub tree_of : Template → Nodes
-tree_of t = nodes_view t.nodes.items

@@ -1,12 +1,14 @@
 // Cuts a text into tokens from the left.
 ghost use Rattle.std.specs.Prelude.{◌≡◌, ◌≤◌, ◌<◌, ◌∷◌, [], length, option_map, option_copied, IfSome, position, ◌==◌, codes};
-ghost use Rattle.hk_template.specs.Key as keys;
+ghost use Rattle.hk_base.specs.Key as keys;
+ghost use Rattle.hk_template.specs.Key as paths;
 ghost use Rattle.hk_template.specs.Cut as spec;
 ghost use Rattle.hk_template.specs.Token.{if_, for_, partial};
 ghost use Rattle.hk_template.specs.ParserViews.{cut_view, token_view, word_view};
 
-use crate::key::{is_bare_key, is_key, is_partial_path};
+use crate::key::{is_bare_key, is_partial_path};
 use crate::token::{Token, Word};
+use hk_base::is_key;
 
 /// A token, and what follows it.
 #[derive(Clone, Copy, Drop)]
@@ -161,7 +163,7 @@ fn for_word<'a>(bytes: &'a [u8]) -> Option<Word<'a>>
 }
 
 fn partial_word<'a>(bytes: &'a [u8]) -> Option<Word<'a>>
-    ensures { option_map word_view result ≡ spec.word_if partial keys.is_partial_path (spec.between (codes "partial(\"") (codes "\")") bytes.now) }
+    ensures { option_map word_view result ≡ spec.word_if partial paths.is_partial_path (spec.between (codes "partial(\"") (codes "\")") bytes.now) }
 {
     let path = between(bytes, b"partial(\"", b"\")")?;
     if is_partial_path(path) {

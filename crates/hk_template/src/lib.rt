@@ -10,14 +10,13 @@ mod node;
 mod parser;
 mod print;
 mod reader;
+mod template;
 mod token;
 mod trim;
 
 pub use fault::TemplateFault;
 pub use laws::grammar_laws;
-pub use node::{Node, Template};
+pub use node::Node;
 pub use print::print_template;
 pub use reader::parse;
-
-#[cfg(test)]
-mod tests;
+pub use template::Template;

@@ -1,4 +1,4 @@
-// A template and its nodes.
+// The nodes of a template.
 use hk_base::Text;
 
 /// A node of a template. Nothing in it is borrowed from the text that it was read from.
@@ -25,10 +25,4 @@ pub enum Node {
     },
     /// `$partial("path")$`: another template.
     Partial(Text),
-}
-
-/// A template: a list of nodes.
-#[derive(Debug, Drop)]
-pub struct Template {
-    pub nodes: Vec<Node>,
 }

@@ -1,18 +1,19 @@
 // Prints a template.
 ghost use Rattle.std.specs.Prelude.{◌≡◌, ◌++◌, OnOk, IfOk};
-ghost use Rattle.hk_template.specs.View.{node_view, nodes_view, tree_of};
+ghost use Rattle.hk_template.specs.View.{node_view, nodes_view};
 ghost use Rattle.hk_template.specs.Template.{IsPrintable, tree_text, node_text};
 ghost use Rattle.hk_template.specs.Parsing.{IsOnlyTree};
 
-use crate::node::{Node, Template};
+use crate::node::Node;
+use crate::template::Template;
 use hk_base::{NoMemory, Text};
 use std::alloc::Global;
 
 /// The text of a template. If the tree is printable, it is the one tree of that text. `NoMemory` only for want of
 /// memory. Linear in the text.
 pub fn print_template(alloc: Global, tree: &Template) -> Result<Text, NoMemory>
-    ensures text { IfOk result (λ text. text ≡ tree_text (tree_of tree.now)) }
-    ensures again { IfOk result (λ text. IsPrintable (tree_of tree.now) → IsOnlyTree text (tree_of tree.now)) }
+    ensures text { IfOk result (λ text. text ≡ tree_text tree.now) }
+    ensures again { IfOk result (λ text. IsPrintable tree.now → IsOnlyTree text tree.now) }
 {
     let mut out = Vec::new(alloc);
     print_nodes(&mut out, &tree.nodes)?;

@@ -8,7 +8,8 @@ ghost use Rattle.hk_template.specs.ParserViews.{frame_view, state_view, token_vi
 use crate::cut::token_at;
 use crate::fault::TemplateFault;
 use crate::frame::{Frame, Parser};
-use crate::node::{Node, Template};
+use crate::node::Node;
+use crate::template::Template;
 use crate::token::Token;
 use crate::trim::{trim_end_if, trim_start_if};
 use hk_base::{NoMemory, Refusal, Text};

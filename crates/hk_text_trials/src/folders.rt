@@ -1,6 +1,6 @@
 // Folders and sinks in memory at work.
-use crate::{CallKind, Fail, MemSink, MemTree, Sink, StillSink, StillTree, Tree, TreeFault};
 use hk_base::{NoMemory, Text};
+use hk_outside::{CallKind, Fail, MemSink, MemTree, Sink, StillSink, StillTree, Tree, TreeFault};
 use std::alloc::Global;
 use std::test;
 
