@@ -1,15 +1,13 @@
 // The form of an identifier and of a version.
-ghost use Rattle.std.specs.Prelude.{◌≡◌, ◌||◌, not, ◌==◌, nat_lt, IfOk, option_map, length};
+ghost use Rattle.std.specs.Prelude.{◌≡◌, IfOk, option_map};
 ghost use Rattle.std.specs.Option.{option_copied};
-ghost use Rattle.std.specs.List.{list_all};
 ghost use Rattle.toml.specs.Data.{as_str, as_array};
 ghost use Rattle.toml.specs.View.{view, items_view};
-ghost use Rattle.hk_base.specs.Identifier as identifier;
 ghost use Rattle.hk_forms.specs.Members.{each, listed};
 ghost use Rattle.hk_forms.specs.IdForm as spec;
 
 use crate::members::{MOST_MEMBERS, items_in, text_in, two};
-use hk_base::{Identifier, NoMemory, Refusal, Text};
+use hk_base::{Identifier, NoMemory, Refusal, Text, is_version};
 use hk_pattern::Items;
 use std::alloc::Global;
 use toml::Value;
@@ -158,16 +156,4 @@ fn version_by(alloc: Global, text: Option<&str>) -> Result<Option<Text>, NoMemor
         }
         _ => Ok(None),
     }
-}
-
-fn is_version(text: &[u8]) -> bool
-    ensures { result ≡ identifier.is_version text.now }
-{
-    !(text.len() == 0 || 64 < text.len()) && are_plain(text)
-}
-
-fn are_plain(text: &[u8]) -> bool
-    ensures { result ≡ list_all identifier.is_plain text.now }
-{
-    text.iter().all(|byte| !(*byte < 32 || *byte == 127))
 }

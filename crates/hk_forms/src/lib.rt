@@ -10,7 +10,7 @@ mod route_form;
 
 pub use id_form::{id_of, paths_listed, version_of};
 pub use members::{both, items_in, only, only_in, table_in, text_in, two, value_at};
-pub use names::{is_context_name, is_key, is_snapshot_name};
+pub use names::{is_context_name, is_snapshot_name};
 pub use pattern_form::pattern_of;
 pub use pattern_text::text_of_pattern;
 pub use route_form::route_of;

@@ -1,5 +1,5 @@
-// The names that a rules file gives: keys of fields, snapshots and contexts.
-ghost use Rattle.std.specs.Prelude.{◌≡◌, ◌-◌, length};
+// The names that a rules file gives: of snapshots and of contexts.
+ghost use Rattle.std.specs.Prelude.{◌≡◌};
 ghost use Rattle.std.specs.List.{list_all, slice_get};
 ghost use Rattle.hk_forms.specs.Names as spec;
 
@@ -15,47 +15,10 @@ fn is_name_byte(byte: u8) -> bool
     (is_letter(byte) || (48 <= byte && byte <= 57)) || (byte == b'_' || byte == b'-')
 }
 
-fn is_key_byte(byte: u8) -> bool
-    ensures { result ≡ spec.is_key_byte byte }
-{
-    is_name_byte(byte) || byte == b'.'
-}
-
 fn are_name_bytes(text: &[u8]) -> bool
     ensures { result ≡ list_all spec.is_name_byte text.now }
 {
     text.iter().all(|byte| is_name_byte(*byte))
-}
-
-fn are_key_bytes(text: &[u8]) -> bool
-    ensures { result ≡ list_all spec.is_key_byte text.now }
-{
-    text.iter().all(|byte| is_key_byte(*byte))
-}
-
-fn begins_key(text: &[u8]) -> bool
-    ensures { result ≡ spec.begins_key (slice_get text.now 0) }
-{
-    match text.get(0) {
-        Some(byte) => is_letter(*byte) || *byte == b'_',
-        None => false,
-    }
-}
-
-fn ends_key(text: &[u8]) -> bool
-    ensures { result ≡ spec.ends_key (slice_get text.now (length text.now - 1)) }
-{
-    match text.last() {
-        Some(byte) => *byte != b'-',
-        None => false,
-    }
-}
-
-/// Whether the text is the key of a field. Linear.
-pub fn is_key(text: &[u8]) -> bool
-    ensures { result ≡ spec.is_key text.now }
-{
-    (begins_key(text) && ends_key(text)) && (text.len() <= 64 && are_key_bytes(text))
 }
 
 /// Whether the text is the name of a context. Linear.

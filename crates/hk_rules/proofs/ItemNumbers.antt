@@ -12,7 +12,7 @@ use Rattle.hk_rules.specs.Plan.{is_match, matches_in, find_in}
 use Rattle.hk_rules.specs.declared.owner.Owner.{Owner}
 use Rattle.hk_rules.proofs.PairNumbers.{position-at}
 
-filter-all : (P : ℕ → Type 0) (t : ℕ → Bool) (xs : List ℕ) → AllByRecursion P xs → AllByRecursion P (filter t xs)
+pub filter-all : (P : ℕ → Type 0) (t : ℕ → Bool) (xs : List ℕ) → AllByRecursion P xs → AllByRecursion P (filter t xs)
 filter-all P t [] h = tt
 filter-all P t (x ∷ xs) h = elim (t x) as (λ b. AllByRecursion P (cond b (x ∷ filter t xs) (filter t xs))) [
   | true ↦ (h.0, filter-all P t xs h.1)
@@ -42,7 +42,7 @@ one-has t q x rest false e p later = elim (t x) as (λ b. list_any (nat_eq q) (c
   | false ↦ later refl
 ]
 
-filter-has : (t : ℕ → Bool) (q : ℕ) (xs : List ℕ) → t q ≡ true → list_any (nat_eq q) xs ≡ true → list_any (nat_eq q) (filter t xs) ≡ true
+pub filter-has : (t : ℕ → Bool) (q : ℕ) (xs : List ℕ) → t q ≡ true → list_any (nat_eq q) xs ≡ true → list_any (nat_eq q) (filter t xs) ≡ true
 filter-has t q [] p h = h
 filter-has t q (x ∷ xs) p h = one-has t q x (filter t xs) (nat_eq q x) refl p (λ e. filter-has t q xs p (subst (λ b. (b || list_any (nat_eq q) xs) ≡ true) e h))
 

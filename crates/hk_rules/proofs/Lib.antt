@@ -8,6 +8,9 @@ pub mod NestedTargets
 pub mod Outcome
 pub mod PairNumbers
 pub mod Pairing
+pub mod Reaching
+pub mod RecipePatterns
+pub mod Recipes
 pub mod Planned
 pub mod Searching
 pub mod Settling

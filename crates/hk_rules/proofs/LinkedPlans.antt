@@ -1,34 +1,34 @@
 -- The plan of linked rules is linked.
-use Rattle.std.proofs.Common.{◌≡◌, ℕ, Bool, true, false, cond, ◌&&◌, not, List, [], ◌∷◌, length, map, Option, Some, None, Result, Ok, Err, IfOk, refl, sym, subst, fold, find}
+use Rattle.std.proofs.Common.{◌≡◌, ℕ, ◌<◌, ◌≤◌, Bool, true, false, cond, ◌&&◌, not, List, [], ◌∷◌, length, map, Option, Some, None, Result, Ok, Err, refl, sym, subst, fold, find, arith}
 use Rattle.std.specs.List.{AllByRecursion, list_all}
 use Rattle.std.specs.Map.{lookup}
 use Rattle.std.specs.BTreeMap.{insert_entry, is_at}
 use Rattle.std.specs.Option.{is_some, option_map}
 use Rattle.std.specs.Ordering.{match_ordering}
 use Rattle.std.specs.declared.cmp.Ordering.TheVariants.{Less, Equal, Greater}
-use Rattle.hk_base.specs.Answers.{Answers}
 use Rattle.hk_base.specs.Bytes.{Bytes}
 use Rattle.hk_base.specs.Identifier.{Ident, ident_cmp, read_ident}
 use Rattle.hk_base.specs.declared.identifier.IdentFault.{IdentFault}
-use Rattle.hk_base.specs.declared.refusal.Refusal.{Refusal}
 use Rattle.hk_base.proofs.Both.{left-part, right-part, not-both}
+use Rattle.hk_chain.specs.Context.{ContextView}
 use Rattle.hk_chain.specs.declared.chain.Step.{Step}
+use Rattle.hk_meta.specs.declared.answer.Split.{Split}
 use Rattle.hk_pattern.specs.Pattern.{matches}
-use Rattle.hk_rules_file.specs.Linked.{IsLinkedChain, AreLinked, IsLinked}
-use Rattle.hk_rules.specs.LinkedPlan.{IsLinkedPlan}
+use Rattle.hk_pattern.specs.declared.pattern.Pattern.{Pattern}
+use Rattle.hk_rules_file.specs.Linked.{IsLinkedChain, IsLinked}
+use Rattle.hk_rules.specs.LinkedPlan.{AreLinkedItems, IsLinkedPlan}
+use Rattle.hk_rules.specs.Pairs.{IsShort}
 use Rattle.hk_rules.specs.PlanView.{PlanView}
-use Rattle.hk_rules.specs.Planning.{plan_of, is_built, is_not_yet, not_yet, step_fault}
+use Rattle.hk_rules.specs.Planning.{plan_by}
 use Rattle.hk_rules_file.specs.Rules.{RulesView}
-use Rattle.hk_rules.specs.Sources.{sources as sources_of}
-use Rattle.hk_rules.specs.Universe.{Claim, owner, claim_by, claim_at, matched, created, claims_by, claims_of, claimed, claimed_all, universe}
+use Rattle.hk_rules.specs.Universe.{Claim, Enough, same, many, owner, claim_by, claim_at, matched, created, claims_by, claims_of, claimed, claimed_all, universe}
 use Rattle.hk_rules_file.specs.declared.rules.Rule.{Rule}
 use Rattle.hk_rules_file.specs.declared.rules.RuleSource.{RuleSource}
 use Rattle.hk_rules_file.specs.declared.rules.RuleSource.TheVariants.{Match, Create}
 use Rattle.hk_rules.specs.declared.source_file.SourceFile.{SourceFile}
 use Rattle.hk_rules.specs.declared.owner.Owner.{Owner}
-use Rattle.hk_rules.specs.declared.plan_fault.PlanFault.{PlanFault}
+use Rattle.hk_rules_file.proofs.LinkedNumbers.{all-weaken}
 use Rattle.hk_rules_file.proofs.LinkedSteps.{Holds, holds-either}
-use Rattle.hk_rules.proofs.Outcome.{plan_of-inverse, IsPlanOf}
 
 -- ---- what holds of all rules holds of the owners of all items
 
@@ -89,40 +89,27 @@ find-none p (x ∷ xs) e = elim (p x) as (λ b. p x ≡ b → cond b (Some x) (f
   | false ↦ λ t h. (t, find-none p xs h)
 ] refl e
 
-all-holds : {X : Type 0} (p : X → Bool) (xs : List X) → list_all p xs ≡ true → AllByRecursion (λ x. p x ≡ true) xs
-all-holds p [] e = tt
-all-holds p (x ∷ xs) e = (left-part (p x) (list_all p xs) e, all-holds p xs (right-part (p x) (list_all p xs) e))
-
-holds-not : (b : Bool) → not b ≡ false → b ≡ true
-holds-not true e = refl
-holds-not false e = sym e
-
-none-of : {X Y : Type 0} (f : X → Y) (o : Option X) → option_map f o ≡ None → o ≡ None
-none-of f None e = refl
-none-of f (Some x) e = cc
-
-built-items : (items : List Claim) → AllByRecursion (λ item. is_not_yet item ≡ false) items → AllByRecursion (λ item. AllByRecursion (λ step. is_built step ≡ true) item.1.rule.chain) items
-built-items [] h = tt
-built-items (item ∷ items) h = (all-holds is_built item.1.rule.chain (holds-not (list_all is_built item.1.rule.chain) h.0), built-items items h.1)
-
-pub step_fault-built : (items : List Claim) → step_fault items ≡ None → AllByRecursion (λ item. AllByRecursion (λ step. is_built step ≡ true) item.1.rule.chain) items
-step_fault-built items e = built-items items (find-none is_not_yet items (none-of not_yet (find is_not_yet items) e))
-
 -- ---- plans
 
-pub plan_of-linked : (rules : RulesView) (files : List (Bytes × Bytes)) (plan : PlanView) → plan_of rules files ≡ Ok plan → IsLinked rules → IsLinkedPlan plan
-plan_of-linked rules files plan e h =
-    let is = plan_of-inverse rules files plan e in
-    let owned = universe-owned (λ rule. IsLinkedChain (length rules.contexts) (length rules.patterns) rule.chain) (sources_of files) rules.rules h.chains in
-    let items = subst (AllByRecursion (λ item. IsLinkedChain (length rules.contexts) (length rules.patterns) item.1.rule.chain)) (sym is.items) owned in
-    let contexts = subst (λ cs. AllByRecursion (λ item. IsLinkedChain (length cs) (length rules.patterns) item.1.rule.chain) plan.items) (sym is.contexts) items in
+abbrev pub LinkedItems : RulesView → List Claim → Type 0
+LinkedItems rules items = AreLinkedItems rules.contexts rules.patterns items
+
+universe-linked : (rules : RulesView) (sources : List (Bytes × SourceFile)) → IsLinked rules → LinkedItems rules (universe sources rules.rules)
+universe-linked rules sources h =
     record {
-      chains = subst (λ ps. AllByRecursion (λ item. IsLinkedChain (length plan.contexts) (length ps) item.1.rule.chain) plan.items) (sym is.patterns) contexts;
-      built = step_fault-built plan.items is.built;
-      named = subst (λ ps. AreLinked plan.contexts ps) (sym is.patterns) (subst (λ cs. AreLinked cs rules.patterns) (sym is.contexts) h.named);
+      chains = universe-owned (λ rule. IsLinkedChain (length rules.contexts) (length rules.patterns) rule.chain) sources rules.rules h.chains;
+      named = h.named;
     }
 
--- and so is the plan that is answered
-pub planned-linked : (rules : RulesView) (files : List (Bytes × Bytes)) (r : Result PlanView (Refusal PlanFault)) → Answers (plan_of rules files) r → IsLinked rules → IfOk r IsLinkedPlan
-planned-linked rules files (Ok plan) is h = plan_of-linked rules files plan is h
-planned-linked rules files (Err fault) is h = tt
+-- the items of linked rules, where there aren't too many
+pub enough-linked : (rules : RulesView) (sources : List (Bytes × SourceFile)) (items : List Claim) → IsLinked rules → Enough items (universe sources rules.rules) → length items ≤ 65535 → LinkedItems rules items
+enough-linked rules sources items h (same e) few = subst (LinkedItems rules) (sym e) (universe-linked rules sources h)
+enough-linked rules sources items h (many long all) few = absurd (omega arith)
+
+-- the plan of linked items
+pub plan_by-linked : (contexts : List ContextView) (patterns : List Pattern) (items : List Claim) (headers : List Split) (targets : List (Option Bytes)) → AreLinkedItems contexts patterns items → IsLinkedPlan (plan_by contexts patterns items headers targets)
+plan_by-linked contexts patterns items headers targets h = record { chains = h.chains; named = h.named }
+
+-- the chains of a linked plan are short
+pub chains-short : (plan : PlanView) → IsLinkedPlan plan → AllByRecursion IsShort plan.items
+chains-short plan h = all-weaken (λ item. IsLinkedChain (length plan.contexts) (length plan.patterns) item.1.rule.chain) IsShort (λ item linked. linked.short) plan.items h.chains

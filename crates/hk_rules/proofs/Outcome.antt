@@ -5,7 +5,7 @@ use Rattle.hk_rules.specs.Clashes.{site_at, same_after, same_clash, lesser, is_l
 use Rattle.hk_rules.specs.Headers.{header_of}
 use Rattle.hk_rules.specs.Outcomes.{unless, after, each}
 use Rattle.hk_rules.specs.PlanView.{PlanView}
-use Rattle.hk_rules.specs.Planning.{plan_of, plan_by, plan_items, plan_counted, plan_headed, plan_routed, name_fault, count_fault, step_fault}
+use Rattle.hk_rules.specs.Planning.{plan_of, plan_by, plan_items, plan_counted, plan_headed, plan_routed, name_fault, count_fault}
 use Rattle.hk_rules_file.specs.Rules.{RulesView}
 use Rattle.hk_rules.specs.Sources.{sources as sources_of}
 use Rattle.hk_rules.specs.Targets.{target_of}
@@ -24,7 +24,6 @@ pub record IsPlanOf (rules : RulesView) (files : List (Bytes × Bytes)) (plan : 
   pub headers : each header_of plan.items ≡ Ok plan.headers
   pub targets : each target_of plan.items ≡ Ok plan.targets
   pub apart : clash_fault (sites plan.items plan.targets) ≡ None
-  pub built : step_fault plan.items ≡ None
 
 passed : {T F : Type 0} (fault : Option F) (next : Result T F) (x : T) → unless fault next ≡ Ok x → (fault ≡ None) × (next ≡ Ok x)
 passed None next x e = (refl, e)
@@ -46,9 +45,8 @@ plan_of-inverse rules files plan e =
     let h = went_on (each header_of us) (plan_headed rules.contexts rules.patterns us) plan b.1 in
     let t = went_on (each target_of us) (plan_routed rules.contexts rules.patterns us h.0) plan h.1.1 in
     let ok : Result PlanView PlanFault = Ok (plan_by rules.contexts rules.patterns us h.0 t.0) in
-    let k = passed (clash_fault (sites us t.0)) (unless (step_fault us) ok) plan t.1.1 in
-    let s = passed (step_fault us) ok plan k.1 in
-    let is = same-ok ok (plan_by rules.contexts rules.patterns us h.0 t.0) plan refl s.1 in
+    let k = passed (clash_fault (sites us t.0)) ok plan t.1.1 in
+    let is = same-ok ok (plan_by rules.contexts rules.patterns us h.0 t.0) plan refl k.1 in
     subst (IsPlanOf rules files) is (record {
       named = a.0;
       items = refl;
@@ -58,7 +56,6 @@ plan_of-inverse rules files plan e =
       headers = h.1.0;
       targets = t.1.0;
       apart = k.0;
-      built = s.0;
     })
 
 -- no later site has the target of an earlier one

@@ -11,13 +11,11 @@ use Rattle.hk_chain.specs.Snapshots.{AreSnapshots}
 use Rattle.hk_chain.specs.declared.chain.Step.{Step}
 use Rattle.hk_chain.specs.declared.chain.Step.TheVariants.{Body, Str, Copy, TemplateBody, Make, Load, Concat, Apply, SelfApply, Save, Relativize}
 use Rattle.hk_chain.proofs.Spans.{layout-low, layout-final, layout-own, layout-near, layout-snapshots}
-use Rattle.hk_rules_file.specs.Linked.{IsLinkedChain, page_names}
+use Rattle.hk_rules_file.specs.Linked.{IsLinkedChain}
 use Rattle.hk_rules.specs.LinkedPlan.{IsLinkedPlan, save_count, snapshots_of}
-use Rattle.hk_rules_file.specs.Linking.{saved_name}
-use Rattle.hk_rules.specs.Pairs.{saved, saves, final_name, names_of, count_of, counts, layout, place_of, pair_at, name_at, name_before}
+use Rattle.hk_rules.specs.Pairs.{saved, saves, final_name, page_names, count_of, counts, layout, place_of, pair_at, name_at, name_before}
 use Rattle.hk_rules.specs.Plan.{no_item, chain_at, last_pair, pair_of, pair_owner, pair_name_of}
 use Rattle.hk_rules.specs.PlanView.{PlanView}
-use Rattle.hk_rules.specs.Planning.{is_built}
 
 -- ---- lists
 
@@ -53,41 +51,20 @@ some-of : {X Y : Type 0} (f : X → Y) (o : Option X) (y : Y) → option_map f o
 some-of f None y e = cc
 some-of f (Some x) y e = (x, refl, cc)
 
-filter_map-same : {X Y : Type 0} (f g : X → Option Y) → ((x : X) → f x ≡ g x) → (xs : List X) → filter_map f xs ≡ filter_map g xs
-filter_map-same f g h [] = refl
-filter_map-same f g h (x ∷ xs) = ap (λ o. cons_option o (filter_map f xs)) (h x) ∙ ap (cons_option (g x)) (filter_map-same f g h xs)
-
 -- ---- names
 
-same-saved : (s : Step) → saved_name s ≡ saved s
-unfolding saved_name
-same-saved Body = refl
-same-saved Str = refl
-same-saved Copy = refl
-same-saved TemplateBody = refl
-same-saved (Make text) = refl
-same-saved (Load id snapshot) = refl
-same-saved (Concat n) = refl
-same-saved (Apply id n) = refl
-same-saved (SelfApply n) = refl
-same-saved (Save name) = refl
-same-saved Relativize = refl
-
 -- the names of a linked chain's pages differ
-pub chain-names : (contexts patterns : ℕ) (steps : List Step) → IsLinkedChain contexts patterns steps → IsDistinct bytes_eq (names_of steps)
-chain-names contexts patterns steps h = subst (λ ns. IsDistinct bytes_eq (ns ++ final_name ∷ [])) (filter_map-same saved_name saved same-saved steps) h.names
+pub chain-names : (contexts patterns : ℕ) (steps : List Step) → IsLinkedChain contexts patterns steps → IsDistinct bytes_eq (page_names steps)
+chain-names contexts patterns steps h = h.names
 
 -- a chain of a linked plan
 pub linked-chain : (plan : PlanView) (i : ℕ) → IsLinkedPlan plan → i < length plan.items → IsLinkedChain (length plan.contexts) (length plan.patterns) (chain_at plan i)
 linked-chain plan i h lt = all-at (λ item. IsLinkedChain (length plan.contexts) (length plan.patterns) item.1.rule.chain) plan.items i no_item h.chains lt
 
-pub built-chain : (plan : PlanView) (i : ℕ) → IsLinkedPlan plan → i < length plan.items → AllByRecursion (λ step. is_built step ≡ true) (chain_at plan i)
-built-chain plan i h lt = all-at (λ item. AllByRecursion (λ step. is_built step ≡ true) item.1.rule.chain) plan.items i no_item h.built lt
-
-plan-names : (plan : PlanView) (i : ℕ) → IsLinkedPlan plan → i < length plan.items → IsDistinct bytes_eq (names_of (chain_at plan i))
+plan-names : (plan : PlanView) (i : ℕ) → IsLinkedPlan plan → i < length plan.items → IsDistinct bytes_eq (page_names (chain_at plan i))
 plan-names plan i h lt = chain-names (length plan.contexts) (length plan.patterns) (chain_at plan i) (linked-chain plan i h lt)
 
-length-names : (steps : List Step) → length (names_of steps) ≡ length (saves steps) + 1
+length-names : (steps : List Step) → length (page_names steps) ≡ length (saves steps) + 1
 length-names steps = length-append (saves steps) (final_name ∷ [])
 
 -- a name at a place, the last one after all others
@@ -120,18 +97,18 @@ record IsPlaced (plan : PlanView) (i : ℕ) (name : Bytes) (p : ℕ) : Type 0 wh
   place : ℕ
   within : place ≤ save_count plan i
   is : p ≡ last_pair plan i - (save_count plan i - place)
-  named : (d : Bytes) → get_or (names_of (chain_at plan i)) place d ≡ name
+  named : (d : Bytes) → get_or (page_names (chain_at plan i)) place d ≡ name
 
 placed : (plan : PlanView) (i : ℕ) (name : Bytes) (p : ℕ) → pair_of plan i name ≡ Some p → IsPlaced plan i name p
 placed plan i name p e =
     let o = some-of (λ place. last_pair plan i - (save_count plan i - place)) (place_of (chain_at plan i) name) p e in
-    let at = position-at (λ own. bytes_eq own name) 0 (names_of (chain_at plan i)) o.0 o.1 in
+    let at = position-at (λ own. bytes_eq own name) 0 (page_names (chain_at plan i)) o.0 o.1 in
     let same : o.0 ≡ at.0 = omega (arith, at.1) in
     record {
       place = at.0;
       within = omega (arith, at.2, length-names (chain_at plan i));
       is = sym o.2 ∙ ap (λ place. last_pair plan i - (save_count plan i - place)) same;
-      named = λ d. bytes-same (get_or (names_of (chain_at plan i)) at.0 d) name (at.3 d);
+      named = λ d. bytes-same (get_or (page_names (chain_at plan i)) at.0 d) name (at.3 d);
     }
 
 -- the pair that a name has is the item's
@@ -144,9 +121,9 @@ pair_of-own plan i name p lt e =
     let last = last-within plan i lt in
     (omega arith, layout-own (counts plan.items) i p (counted plan i lt) (omega arith) (omega (arith, count-at plan i lt)))
 
-place-pair : (plan : PlanView) (i k : ℕ) (name : Bytes) → IsLinkedPlan plan → i < length plan.items → k ≤ save_count plan i → (d : Bytes) → get_or (names_of (chain_at plan i)) k d ≡ name → pair_of plan i name ≡ Some (last_pair plan i - (save_count plan i - k))
+place-pair : (plan : PlanView) (i k : ℕ) (name : Bytes) → IsLinkedPlan plan → i < length plan.items → k ≤ save_count plan i → (d : Bytes) → get_or (page_names (chain_at plan i)) k d ≡ name → pair_of plan i name ≡ Some (last_pair plan i - (save_count plan i - k))
 place-pair plan i k name h lt le d is =
-    let names = names_of (chain_at plan i) in
+    let names = page_names (chain_at plan i) in
     let within : k < length names = omega (arith, length-names (chain_at plan i)) in
     let found : place_of (chain_at plan i) (get_or names k d) ≡ Some (0 + k) = position-distinct names k d 0 (plan-names plan i h lt) within in
     let place : 0 + k ≡ k = omega arith in

@@ -1,6 +1,6 @@
 -- The pairs of items and the items of a pattern, one after another.
-use Rattle.std.proofs.Common.{◌≡◌, ℕ, ◌+◌, ◌<◌, Bool, cond, List, [], ◌∷◌, ◌++◌, length, take, get_or, replicate, Option, Some, None, refl, sym, ap, ◌∙◌, arith, zero-add, filter, length-append}
-use Rattle.std.specs.List.{range_with_len, cons_option}
+use Rattle.std.proofs.Common.{◌≡◌, ℕ, suc, ◌+◌, ◌*◌, ◌<◌, ◌≤◌, Bool, cond, List, [], ◌∷◌, ◌++◌, length, take, get_or, replicate, Option, Some, None, refl, sym, ap, ◌∙◌, arith, zero-add, filter, length-append}
+use Rattle.std.specs.List.{AllByRecursion, range_with_len, cons_option}
 use Rattle.std.specs.Option.{is_some, option_map}
 use Rattle.std.proofs.lemmas.List.{take_more, map-id, map-append, length-replicate}
 use Rattle.std.proofs.lemmas.List.Elements.{filter_map-append, filter-append}
@@ -10,7 +10,7 @@ use Rattle.hk_base.specs.Identifier.{Ident}
 use Rattle.hk_chain.specs.Counts.{pair_items, layout_of}
 use Rattle.hk_chain.specs.Layout.{pairs}
 use Rattle.hk_chain.specs.declared.chain.Step.{Step}
-use Rattle.hk_rules.specs.Pairs.{saved, saves, count_of, counts}
+use Rattle.hk_rules.specs.Pairs.{saved, saves, IsShort, count_of, counts}
 use Rattle.hk_rules.specs.declared.owner.Owner.{Owner}
 
 pub is_some-map : {A B : Type 0} (f : A → B) (o : Option A) → is_some (option_map f o) ≡ is_some o
@@ -49,11 +49,21 @@ counts-turn items i item old new count h at is so_far put =
     ∙ sym (map-append count_of (take i items) (get_or items i item ∷ []))
     ∙ ap counts (sym (take_more items i item h))
 
-pairs-push : (i : ℕ) (cs : List ℕ) (c : ℕ) → length (pair_items i (cs ++ c ∷ [])) ≡ length (pair_items i cs) + c + 1
-pairs-push i [] c = omega (arith, length-append (replicate (c + 1) i) [], length-replicate (c + 1) i)
-pairs-push i (d ∷ cs) c =
-    omega (arith, pairs-push (i + 1) cs c, length-append (replicate (d + 1) i) (pair_items (i + 1) (cs ++ c ∷ [])), length-append (replicate (d + 1) i) (pair_items (i + 1) cs))
+-- ---- how many pairs there are
 
-pub total-turn : (old new : List ℕ) (count total next : ℕ) → total ≡ pairs (layout_of old) → next ≡ total + count + 1 → new ≡ old ++ count ∷ [] → next ≡ pairs (layout_of new)
-total-turn old new count total next so_far more put =
-    more ∙ ap (λ t. t + count + 1) so_far ∙ sym (pairs-push 0 old count) ∙ ap (λ cs. pairs (layout_of cs)) (sym put)
+cons_option-short : (o : Option Bytes) (names : List Bytes) (n : ℕ) → length names ≤ n → length (cons_option o names) ≤ suc n
+cons_option-short None names n h = omega (arith, h)
+cons_option-short (Some name) names n h = omega (arith, h)
+
+saves-short : (steps : List Step) → length (saves steps) ≤ length steps
+saves-short [] = omega arith
+saves-short (step ∷ steps) = cons_option-short (saved step) (saves steps) (length steps) (saves-short steps)
+
+pairs-few : (items : List (Ident × Owner)) (i : ℕ) → AllByRecursion IsShort items → length (pair_items i (counts items)) ≤ 65 * length items
+pairs-few [] i h = omega arith
+pairs-few (item ∷ items) i h =
+    omega (arith, length-append (replicate (count_of item + 1) i) (pair_items (i + 1) (counts items)), length-replicate (count_of item + 1) i, saves-short item.1.rule.chain, h.0, pairs-few items (i + 1) h.1)
+
+-- the pairs of so many items with short chains have numbers
+pub pairs-fit : (items : List (Ident × Owner)) → length items ≤ 65535 → AllByRecursion IsShort items → pairs (layout_of (counts items)) < 4294967296
+pairs-fit items few h = omega (arith, few, pairs-few items 0 h)

@@ -7,11 +7,13 @@ pub mod Clashes
 pub mod Flags
 pub mod Headers
 pub mod LinkedPlan
+pub mod MadePlan
 pub mod Outcomes
 pub mod Pairs
 pub mod Plan
 pub mod PlanView
 pub mod Planning
+pub mod Recipe
 pub mod Resource
 pub mod Settled
 pub mod SiteMap

@@ -1,30 +1,18 @@
 -- The names under which items save pages, and their numbers.
-use Rattle.std.specs.Prelude.{ℕ, ◌-◌, List, [], ◌∷◌, ◌++◌, map, length, filter_map, Option, Some, None, option_map, bytes_eq, codes}
+use Rattle.std.specs.Prelude.{ℕ, ◌-◌, ◌≤◌, List, map, length, Option, option_map, bytes_eq}
 use Rattle.std.specs.List.{position_from, slice_index_or}
 use Rattle.hk_base.specs.Bytes.{Bytes}
 use Rattle.hk_base.specs.Identifier.{Ident}
 use Rattle.hk_chain.specs.Counts.{layout_of}
 use Rattle.hk_chain.specs.Layout.{Shape}
 use Rattle.hk_chain.specs.declared.chain.Step.{Step}
-use Rattle.hk_chain.specs.declared.chain.Step.TheVariants.{Save}
 use Rattle.hk_rules.specs.declared.owner.Owner.{Owner}
+pub use Rattle.hk_rules_file.specs.Saves.{saved, saves, page_names}
+pub use Rattle.hk_steps.specs.StepForm.{final_name}
 
--- the name under which a step saves the page
-abbrev pub saved : Step → Option Bytes
-saved (Save name) = Some name
-saved _ = None
-
--- the names under which a chain saves its page on its way
-abbrev pub saves : List Step → List Bytes
-saves steps = filter_map saved steps
-
--- the name of the finished page
-abbrev pub final_name : Bytes
-final_name = codes "_final"
-
--- all names of an item's pages, in chain order, the finished one last
-abbrev pub names_of : List Step → List Bytes
-names_of steps = saves steps ++ final_name ∷ []
+-- an item's chain has 64 steps at most
+abbrev pub IsShort : Ident × Owner → Type 0
+IsShort item = length item.1.rule.chain ≤ 64
 
 abbrev pub count_of : Ident × Owner → ℕ
 count_of item = length (saves item.1.rule.chain)
@@ -38,7 +26,7 @@ layout items = layout_of (counts items)
 
 -- the place of a name among those of a chain
 abbrev pub place_of : List Step → Bytes → Option ℕ
-place_of steps name = position_from (λ own. bytes_eq own name) 0 (names_of steps)
+place_of steps name = position_from (λ own. bytes_eq own name) 0 (page_names steps)
 
 -- the pair of an item with a name, counted back from the item's last pair
 abbrev pub pair_at : ℕ → List Step → Bytes → Option ℕ

@@ -1,11 +1,9 @@
 -- The plan that rules make of the files of a folder.
-use Rattle.std.specs.Prelude.{List, Bool, true, false, not, nat_lt, length, Option, Some, None, option_map, Result, Ok, if◌then◌else◌}
-use Rattle.std.specs.List.{find, list_all}
+use Rattle.std.specs.Prelude.{List, Bool, not, nat_lt, length, Option, Some, None, option_map, Result, Ok, if◌then◌else◌}
+use Rattle.std.specs.List.{find}
 use Rattle.hk_base.specs.Bytes.{Bytes}
 use Rattle.hk_base.specs.Identifier.{is_path}
 use Rattle.hk_chain.specs.Context.{ContextView}
-use Rattle.hk_chain.specs.declared.chain.Step.{Step}
-use Rattle.hk_chain.specs.declared.chain.Step.TheVariants.{Body, Str, Copy, Make}
 use Rattle.hk_meta.specs.declared.answer.Split.{Split}
 use Rattle.hk_pattern.specs.declared.pattern.Pattern.{Pattern}
 use Rattle.hk_rules.specs.Clashes.{sites, clash_fault}
@@ -17,7 +15,7 @@ use Rattle.hk_rules.specs.Sources.{sources}
 use Rattle.hk_rules.specs.Targets.{target_of}
 use Rattle.hk_rules.specs.Universe.{Claim, universe}
 use Rattle.hk_rules.specs.declared.plan_fault.PlanFault.{PlanFault}
-use Rattle.hk_rules.specs.declared.plan_fault.PlanFault.TheVariants.{BadName, TooManyItems, NotYet}
+use Rattle.hk_rules.specs.declared.plan_fault.PlanFault.TheVariants.{BadName, TooManyItems}
 
 abbrev pub is_bad_name : Bytes × Bytes → Bool
 is_bad_name file = not (is_path file.0)
@@ -29,23 +27,6 @@ bad_name file = BadName file.0
 abbrev pub name_fault : List (Bytes × Bytes) → Option PlanFault
 name_fault files = option_map bad_name (find is_bad_name files)
 
-abbrev pub is_built : Step → Bool
-is_built Body = true
-is_built Str = true
-is_built Copy = true
-is_built (Make text) = true
-is_built _ = false
-
-abbrev pub is_not_yet : Claim → Bool
-is_not_yet item = not (list_all is_built item.1.rule.chain)
-
-abbrev pub not_yet : Claim → PlanFault
-not_yet item = NotYet item.0
-
--- the first item that has a step which can't be run yet
-abbrev pub step_fault : List Claim → Option PlanFault
-step_fault items = option_map not_yet (find is_not_yet items)
-
 abbrev pub count_fault : List Claim → Option PlanFault
 count_fault items = if nat_lt 65535 (length items) then Some TooManyItems else None
 
@@ -56,7 +37,7 @@ plan_by contexts patterns items headers targets =
 -- the plan of items with their headers and targets
 abbrev pub plan_routed : List ContextView → List Pattern → List Claim → List Split → List (Option Bytes) → Result PlanView PlanFault
 plan_routed contexts patterns items headers targets =
-    unless (clash_fault (sites items targets)) (unless (step_fault items) (Ok (plan_by contexts patterns items headers targets)))
+    unless (clash_fault (sites items targets)) (Ok (plan_by contexts patterns items headers targets))
 
 abbrev pub plan_headed : List ContextView → List Pattern → List Claim → List Split → Result PlanView PlanFault
 plan_headed contexts patterns items headers = after (each target_of items) (plan_routed contexts patterns items headers)

@@ -8,9 +8,8 @@ ghost use Rattle.hk_rules.specs.Clashes as spec;
 
 use crate::owner::Owner;
 use crate::plan_fault::PlanFault;
-use crate::shared::Shared;
 use crate::site::{Clash, Site};
-use hk_base::{Identifier, NoMemory, Refusal, Text};
+use hk_base::{Identifier, NoMemory, Refusal, Shared, Text};
 use std::alloc::Global;
 use std::cmp::Ordering;
 use std::collections::BTreeMap;

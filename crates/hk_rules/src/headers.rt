@@ -9,10 +9,9 @@ ghost use Rattle.hk_rules.specs.Headers as spec;
 
 use crate::owner::Owner;
 use crate::plan_fault::PlanFault;
-use crate::shared::Shared;
 use crate::source_file::SourceFile;
 use crate::sources::companion_path;
-use hk_base::{Identifier, NoMemory, Refusal, Text};
+use hk_base::{Identifier, NoMemory, Refusal, Shared, Text};
 use hk_meta::{HeaderFault, Metadata, Split, merge, read_companion, split};
 use std::alloc::Global;
 

@@ -10,13 +10,9 @@ mod pairs;
 mod plan;
 mod plan_fault;
 mod plan_sends;
-#[cfg(test)]
-mod plan_tests;
 mod planning;
+mod recipe;
 mod resource;
-#[cfg(test)]
-mod resource_tests;
-mod shared;
 mod site;
 mod source_file;
 mod sources;
@@ -28,5 +24,5 @@ pub use hk_rules_file::{Rule, RuleSource, Rules, RulesFault, read_rules};
 pub use plan::Plan;
 pub use plan_fault::PlanFault;
 pub use planning::make_plan;
+pub use recipe::plans_give_recipes;
 pub use resource::{is_companion, is_ignored};
-pub use shared::Shared;

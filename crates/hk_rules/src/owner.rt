@@ -1,6 +1,6 @@
 // Who owns an item.
-use crate::shared::Shared;
 use crate::source_file::SourceFile;
+use hk_base::Shared;
 use hk_rules_file::Rule;
 
 /// The rule that owns an item, and the file that the item is of. A created item has no file.

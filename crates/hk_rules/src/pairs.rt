@@ -1,58 +1,41 @@
 // The names under which items save pages, and their numbers.
-ghost use Rattle.std.specs.Prelude.{◌≡◌, ◌+◌, ◌-◌, ◌<◌, ◌≤◌, ◌^◌, length, option_map, IfOk};
-ghost use Rattle.hk_chain.specs.Counts.{layout_of as shape_of};
-ghost use Rattle.hk_chain.specs.Layout.{pairs};
+ghost use Rattle.std.specs.Prelude.{◌≡◌, ◌-◌, ◌≤◌, length, IfOk};
+ghost use Rattle.std.specs.List.{AllByRecursion};
 ghost use Rattle.hk_rules.specs.Pairs as spec;
 
 use crate::owner::Owner;
 use hk_base::{Identifier, NoMemory};
 use hk_chain::{Layout, PairNo, Step};
+use hk_rules_file::saved;
 use std::alloc::Global;
 
 /// The pairs of the items. Linear in the items and their chains.
 pub(crate) fn layout_of(alloc: Global, items: &[(Identifier, Owner)]) -> Result<Layout, NoMemory>
-    requires { length items.now ≤ 65535 }
+    requires few { length items.now ≤ 65535 }
+    requires short { AllByRecursion spec.IsShort items.now }
     ensures { IfOk result (λ l. l ≡ spec.layout items.now) }
 {
     let counts = counts_of(alloc, items)?;
     Layout::of_counts(alloc, &counts)
 }
 
-/// How many pages each item saves on its way. Pairs beyond the numbers of pairs count as want of memory.
+/// How many pages each item saves on its way.
 fn counts_of(alloc: Global, items: &[(Identifier, Owner)]) -> Result<Vec<u32>, NoMemory>
-    ensures counts { IfOk result (λ v. v.items ≡ spec.counts items.now) }
-    ensures fit { IfOk result (λ v. pairs (shape_of v.items) < 2 ^ 32) }
+    requires { AllByRecursion spec.IsShort items.now }
+    ensures { IfOk result (λ v. v.items ≡ spec.counts items.now) }
 {
     let mut counts = Vec::with_capacity(alloc, items.len())?;
-    let mut total: u32 = 0;
     for item in items {
-        let count = counted(item)?;
-        total = total_with(total, count)?;
-        counts.push(count)?;
+        counts.push(counted(item))?;
     }
     Ok(counts)
 }
 
-fn counted(item: &(Identifier, Owner)) -> Result<u32, NoMemory>
-    ensures { IfOk result (λ n. n ≡ spec.count_of item.now) }
+fn counted(item: &(Identifier, Owner)) -> u32
+    requires { spec.IsShort item.now }
+    ensures { result ≡ spec.count_of item.now }
 {
-    match u32::try_from(count_saves(&item.1.rule.get().chain.steps)) {
-        Ok(count) => Ok(count),
-        Err(_) => Err(NoMemory),
-    }
-}
-
-fn total_with(total: u32, count: u32) -> Result<u32, NoMemory>
-    ensures value { IfOk result (λ t. t ≡ total + count + 1) }
-    ensures fits { IfOk result (λ t. t < 2 ^ 32) }
-{
-    let Some(sum) = total.checked_add(count) else {
-        return Err(NoMemory);
-    };
-    match sum.checked_add(1) {
-        Some(sum) => Ok(sum),
-        None => Err(NoMemory),
-    }
+    count_saves(&item.1.rule.get().chain.steps) as u32
 }
 
 fn count_saves(steps: &[Step]) -> usize
@@ -66,15 +49,6 @@ fn count_saves(steps: &[Step]) -> usize
         }
     }
     count
-}
-
-fn saved(step: &Step) -> Option<&[u8]>
-    ensures { option_map (λ n. n.now) result ≡ spec.saved step.now }
-{
-    match step {
-        Step::Save(name) => Some(name.as_slice()),
-        _ => None,
-    }
 }
 
 /// The pair with this name of an item whose last pair is `last`. Linear in the chain.

@@ -1,6 +1,7 @@
 // The plan of a site.
 ghost use Rattle.std.specs.Prelude.{◌≡◌, ◌<◌, ◌≤◌, length, option_map, IfOk};
 ghost use Rattle.hk_chain.specs.Layout.{pairs};
+ghost use Rattle.hk_rules.specs.LinkedPlan.{IsLinkedPlan};
 ghost use Rattle.hk_rules.specs.Pairs.{layout};
 ghost use Rattle.hk_rules.specs.Plan.{lookups};
 ghost use Rattle.hk_rules.specs.PlanView.{IsPlan};
@@ -10,8 +11,7 @@ use crate::finding::place_of;
 use crate::matching::matching;
 use crate::owner::Owner;
 use crate::pairs::{layout_of, name_before, pair_at};
-use crate::shared::Shared;
-use hk_base::{Identifier, NoMemory, Text};
+use hk_base::{Identifier, NoMemory, Shared, Text};
 use hk_chain::{Chain, Context, ContextNo, ItemNo, Layout, PairNo, PatternNo};
 use hk_meta::{Metadata, Split};
 use hk_pattern::Pattern;
@@ -19,7 +19,8 @@ use std::alloc::Global;
 use std::marker::Model;
 
 /// What is known of a site before a compiler runs: its items in identifier order, and of each who owns it, its header
-/// and its target. In contracts it is these lists; `lookups` says what is told of them.
+/// and its target. In contracts it is these lists; `lookups` says what is told of them. Every plan is linked: the numbers
+/// in its chains and contexts are those of contexts and patterns that there are, and the names of each kind differ.
 #[derive(Drop)]
 pub struct Plan {
     items: Vec<(Identifier, Owner)>,
@@ -35,16 +36,18 @@ impl Model for Plan {
     ghost use Rattle.std.specs.Coded.{codes};
     ghost use Rattle.hk_pattern.specs.contracts.pattern.Pattern as pattern;
     ghost use Rattle.hk_route.specs.contracts.route.Route as route;
+    ghost use Rattle.hk_rules.specs.LinkedPlan.{IsLinkedPlan};
     ghost use Rattle.hk_rules.specs.Pairs as pairs;
     ghost use Rattle.hk_rules.specs.PlanView.{PlanView, IsPlan};
+    ghost use Rattle.hk_rules.specs.Planning.{plan_by};
 
     ghost Value = { PlanView };
 
     ghost coded = { Prim.hlevel (codes, pattern.the_row.coded, route.the_row.coded) };
 
-    ghost view = { λ p. record { items = p.items.items; headers = p.headers.items; targets = p.targets.items; contexts = p.contexts.items; patterns = p.patterns.items } };
+    ghost view = { λ p. plan_by p.contexts.items p.patterns.items p.items.items p.headers.items p.targets.items };
 
-    ghost invariant = { λ p. IsPlan (record { items = p.items.items; headers = p.headers.items; targets = p.targets.items; contexts = p.contexts.items; patterns = p.patterns.items }) × (p.layout ≡ pairs.layout p.items.items) };
+    ghost invariant = { λ p. let plan = plan_by p.contexts.items p.patterns.items p.items.items p.headers.items p.targets.items in IsPlan plan × IsLinkedPlan plan × (p.layout ≡ pairs.layout p.items.items) };
 }
 
 impl Plan {
@@ -57,7 +60,8 @@ impl Plan {
         contexts: Vec<Context>,
         patterns: Vec<Pattern>,
     ) -> Result<Plan, NoMemory>
-        requires { IsPlan (plan_by contexts.items patterns.items items.items headers.items targets.items) }
+        requires plan { IsPlan (plan_by contexts.items patterns.items items.items headers.items targets.items) }
+        requires linked { IsLinkedPlan (plan_by contexts.items patterns.items items.items headers.items targets.items) }
         ensures { IfOk result (λ p. p ≡ plan_by contexts.items patterns.items items.items headers.items targets.items) }
     {
         let layout = layout_of(alloc, &items)?;
@@ -82,6 +86,13 @@ impl Plan {
         ensures valid { IsPlan self.now }
     {
         self.items.len() as u32
+    }
+
+    /// Tells that the plan is linked. Constant.
+    pub fn linked(&self)
+        ensures { IsLinkedPlan self.now }
+    {
+        let _items = &self.items;
     }
 
     /// The pairs of the items, item after item: the names that a chain saves in chain order, and `_final` last. Constant.

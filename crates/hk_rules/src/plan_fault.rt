@@ -32,8 +32,4 @@ pub enum PlanFault {
         first: Identifier,
         second: Identifier,
     },
-    /// The item has a step that can't be run yet: the first such item.
-    NotYet {
-        id: Identifier,
-    },
 }

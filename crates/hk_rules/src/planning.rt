@@ -1,13 +1,13 @@
 // The plan that rules make of the files of a folder.
-ghost use Rattle.std.specs.Prelude.{◌≡◌, ◌≤◌, length, IfOk};
-ghost use Rattle.std.specs.List.{find, list_all};
+ghost use Rattle.std.specs.Prelude.{◌≡◌, ◌≤◌, length};
+ghost use Rattle.std.specs.List.{find};
 ghost use Rattle.std.specs.List.Sorted.{IsStrictlySortedBy};
 ghost use Rattle.std.specs.Map.{keys_of};
 ghost use Rattle.std.specs.Option.{option_copied};
 ghost use Rattle.hk_base.specs.Answers.{Answers};
 ghost use Rattle.hk_base.specs.Identifier.{ident_cmp};
 ghost use Rattle.hk_rules_file.specs.Linked.{IsLinked};
-ghost use Rattle.hk_rules.specs.LinkedPlan.{IsLinkedPlan};
+ghost use Rattle.hk_rules.specs.LinkedPlan.{AreLinkedItems};
 ghost use Rattle.hk_rules.specs.Outcomes.{Passes};
 ghost use Rattle.hk_rules.specs.Planning as spec;
 
@@ -20,7 +20,7 @@ use crate::sources::sources_of;
 use crate::targets::targets_of;
 use crate::universe::{MOST_ITEMS, universe};
 use hk_base::{Identifier, Refusal, Text, is_path};
-use hk_chain::{Context, Step};
+use hk_chain::Context;
 use hk_meta::Split;
 use hk_pattern::Pattern;
 use hk_rules_file::Rules;
@@ -43,11 +43,10 @@ struct Named {
 /// The faults are tested in this order: `BadName` with the first file whose path is no identifier's; `TooManyItems` for
 /// more than 65,535 items; `BadHeader` with the first item whose header, or else companion, is refused; `BadTarget` with
 /// the first item whose route gives a bad path; `SameTarget` with the least target of two items, and the two least;
-/// `NestedTarget` with the least target that lies above another, and the least below it; `NotYet` with the first item
-/// that has another step than `body`, `string`, `copy` and `make`.
+/// `NestedTarget` with the least target that lies above another, and the least below it.
 ///
-/// Where the numbers in the rules are in range and their names differ, as in rules that were read, they are in the plan:
-/// in each item's chain and in the contexts, with steps of these four kinds alone.
+/// The rules have to be linked, as those that `read_rules` gives: the numbers in them in range, their names and texts
+/// different and of their form. So is the plan then, as `Plan::linked` tells: in each item's chain and in the contexts.
 ///
 /// Each pattern is tested once on each path; then `n log n`.
 pub fn make_plan(
@@ -55,8 +54,8 @@ pub fn make_plan(
     rules: Rules,
     files: Vec<(Text, Text)>,
 ) -> Result<Plan, Refusal<PlanFault>>
-    ensures plan { Answers (spec.plan_of rules files.items) result }
-    ensures linked { IsLinked rules → IfOk result (λ p. IsLinkedPlan p) }
+    requires { IsLinked rules }
+    ensures { Answers (spec.plan_of rules files.items) result }
 {
     check_names(alloc, &files)?;
     let sources = sources_of(alloc, files)?;
@@ -74,7 +73,8 @@ fn plan_items(
     named: Named,
     items: Vec<(Identifier, Owner)>,
 ) -> Result<Plan, Refusal<PlanFault>>
-    requires { IsStrictlySortedBy ident_cmp (keys_of items.items) }
+    requires sorted { IsStrictlySortedBy ident_cmp (keys_of items.items) }
+    requires linked { length items.items ≤ 65535 → AreLinkedItems named.contexts.items named.patterns.items items.items }
     ensures { Answers (spec.plan_items named.contexts.items named.patterns.items items.items) result }
 {
     check_count(&items)?;
@@ -91,6 +91,7 @@ fn plan_headed(
     requires sorted { IsStrictlySortedBy ident_cmp (keys_of items.items) }
     requires few { length items.items ≤ 65535 }
     requires headed { length headers.items ≡ length items.items }
+    requires linked { AreLinkedItems named.contexts.items named.patterns.items items.items }
     ensures { Answers (spec.plan_headed named.contexts.items named.patterns.items items.items headers.items) result }
 {
     let targets = targets_of(alloc, &items)?;
@@ -108,10 +109,10 @@ fn plan_routed(
     requires few { length items.items ≤ 65535 }
     requires headed { length headers.items ≡ length items.items }
     requires routed { length targets.items ≡ length items.items }
+    requires linked { AreLinkedItems named.contexts.items named.patterns.items items.items }
     ensures { Answers (spec.plan_routed named.contexts.items named.patterns.items items.items headers.items targets.items) result }
 {
     check_targets(alloc, &items, &targets)?;
-    check_steps(alloc, &items)?;
     let Named { contexts, patterns } = named;
     let plan = Plan::of_parts(alloc, items, headers, targets, contexts, patterns)?;
     Ok(plan)
@@ -148,39 +149,4 @@ fn check_count(items: &[(Identifier, Owner)]) -> Result<(), Refusal<PlanFault>>
     } else {
         Ok(())
     }
-}
-
-fn check_steps(alloc: Global, items: &[(Identifier, Owner)]) -> Result<(), Refusal<PlanFault>>
-    ensures { Passes (spec.step_fault items.now) result }
-{
-    match first_not_yet(items) {
-        None => Ok(()),
-        Some(item) => Err(Refusal::Fault(PlanFault::NotYet {
-            id: item.0.copy(alloc)?,
-        })),
-    }
-}
-
-fn first_not_yet(items: &[(Identifier, Owner)]) -> Option<&(Identifier, Owner)>
-    ensures { option_copied result ≡ find spec.is_not_yet items.now }
-{
-    items.iter().find(|item| is_not_yet(item))
-}
-
-fn is_not_yet(item: &(Identifier, Owner)) -> bool
-    ensures { result ≡ spec.is_not_yet item.now }
-{
-    !are_built(&item.1.rule.get().chain.steps)
-}
-
-fn are_built(steps: &[Step]) -> bool
-    ensures { result ≡ list_all spec.is_built steps.now }
-{
-    steps.iter().all(is_built)
-}
-
-fn is_built(step: &Step) -> bool
-    ensures { result ≡ spec.is_built step.now }
-{
-    matches!(step, Step::Body | Step::Str | Step::Copy | Step::Make(_))
 }

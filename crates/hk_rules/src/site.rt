@@ -1,6 +1,5 @@
 // Targets with their items.
-use crate::shared::Shared;
-use hk_base::{Identifier, Text};
+use hk_base::{Identifier, Shared, Text};
 
 /// A target, and the item that is written there.
 #[derive(Drop)]

@@ -1,6 +1,5 @@
 // What an item is made of.
-use crate::shared::Shared;
-use hk_base::Text;
+use hk_base::{Shared, Text};
 
 /// What a file holds, and what its companion holds.
 #[derive(Drop)]

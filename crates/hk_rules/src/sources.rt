@@ -7,9 +7,8 @@ ghost use Rattle.hk_base.specs.Bytes.{Bytes};
 ghost use Rattle.hk_rules.specs.Sources as spec;
 
 use crate::resource::is_companion;
-use crate::shared::Shared;
 use crate::source_file::SourceFile;
-use hk_base::{NoMemory, Text};
+use hk_base::{NoMemory, Shared, Text};
 use std::alloc::Global;
 use std::collections::BTreeMap;
 

@@ -11,9 +11,8 @@ ghost use Rattle.hk_rules.specs.Settled.{AllSettled, AreSettled, flags_at, has_k
 ghost use Rattle.hk_rules.specs.Universe as spec;
 
 use crate::owner::Owner;
-use crate::shared::Shared;
 use crate::source_file::SourceFile;
-use hk_base::{Identifier, NoMemory, Refusal, Text};
+use hk_base::{Identifier, NoMemory, Refusal, Shared, Text};
 use hk_pattern::Pattern;
 use hk_rules_file::{Rule, RuleSource};
 use std::alloc::Global;

@@ -1,4 +1,4 @@
--- Fields that are read have numbers in range.
+-- Fields that are read have numbers in range, and dates' patterns of their form.
 use Rattle.std.proofs.Common.{◌≡◌, ℕ, ◌<◌, ◌≤◌, Bool, true, false, cond, ◌&&◌, List, [], ◌∷◌, ◌++◌, length, Option, Some, None, IfSome, refl, arith, ℤ, pos, negsuc}
 use Rattle.std.specs.Prelude.{bytes_eq, codes, nat_le, option_and_then}
 use Rattle.std.specs.List.{AllByRecursion}
@@ -11,8 +11,9 @@ use Rattle.hk_chain.specs.declared.context.Field.TheVariants.{Body, Metadata, Ur
 use Rattle.hk_chain.specs.declared.context.Order.{Order}
 use Rattle.hk_pattern.specs.declared.pattern.Pattern.{Pattern}
 use Rattle.hk_steps.specs.FieldForm.{word_field, const_by, date_by, flag_by, teaser_by, key_by, date_pattern_by, paired, keyed_by, limit_in, limit_or_none, snapshot_or_final, order_or_id, several, list_in, list_by, list_of, is_list_key, in_table, table_by, field_by, field_of, width, most_fields, not_wide, fits_context, fields_by, fields_at, context_fields}
-use Rattle.hk_rules_file.specs.Linked.{IsFieldWithin}
+use Rattle.hk_rules_file.specs.Linked.{IsLinkedField}
 use Rattle.hk_rules_file.specs.Linking.{default_fields, list_field, link_field, link_fields, next_field}
+use Rattle.hk_meta.specs.DatePattern.{pattern_ok}
 use Rattle.hk_forms.specs.Members.{each, fits, only, two, count_items, keys_pass}
 use Rattle.hk_rules_file.specs.Numbering.{place_of, numbered}
 use Rattle.hk_forms.specs.PatternForm.{pattern_of}
@@ -25,6 +26,7 @@ use Rattle.hk_rules_file.proofs.LinkedSteps.{Holds, holds-either, holds-each}
 -- ---- fields as they are read
 
 abbrev IsPlainField : Field → Type 0
+IsPlainField (Date key pattern) = pattern_ok pattern ≡ true
 IsPlainField (ListField key of snapshot order limit context) = ⊥
 IsPlainField _ = Unit {0}
 
@@ -50,10 +52,17 @@ const-ready None text = tt
 const-ready (Some key) None = tt
 const-ready (Some key) (Some text) = tt
 
-date-ready : (key text : Option Bytes) → Holds IsReadyField (date_by key text)
-date-ready None text = tt
-date-ready (Some key) None = tt
-date-ready (Some key) (Some text) = tt
+pattern-dated : (text : Option Bytes) → Holds (λ pattern. pattern_ok pattern ≡ true) (date_pattern_by text)
+pattern-dated None = tt
+pattern-dated (Some text) = elim (pattern_ok text) as (λ b. pattern_ok text ≡ b → Holds (λ pattern. pattern_ok pattern ≡ true) (cond b (Some text) None)) [
+  | true ↦ λ e. e
+  | false ↦ λ e. tt
+] refl
+
+date-ready : (key pattern : Option Bytes) → Holds (λ text. pattern_ok text ≡ true) pattern → Holds IsReadyField (date_by key pattern)
+date-ready None pattern h = tt
+date-ready (Some key) None h = tt
+date-ready (Some key) (Some pattern) h = h
 
 flag-ready : (key : Option Bytes) (flag : Option Bool) → Holds IsReadyField (flag_by key flag)
 flag-ready None flag = tt
@@ -68,7 +77,7 @@ teaser-ready (Some key) (Some snapshot) = tt
 paired-ready : (word : Bytes) (p : Data × Data) → Holds IsReadyField (paired word p)
 paired-ready word p =
     holds-either IsReadyField (bytes_eq word (codes "const")) (const_by (key_by (as_str p.0)) (as_str p.1)) _ (const-ready (key_by (as_str p.0)) (as_str p.1))
-    (holds-either IsReadyField (bytes_eq word (codes "date")) (date_by (key_by (as_str p.0)) (date_pattern_by (as_str p.1))) _ (date-ready (key_by (as_str p.0)) (date_pattern_by (as_str p.1)))
+    (holds-either IsReadyField (bytes_eq word (codes "date")) (date_by (key_by (as_str p.0)) (date_pattern_by (as_str p.1))) _ (date-ready (key_by (as_str p.0)) (date_pattern_by (as_str p.1)) (pattern-dated (as_str p.1)))
     (holds-either IsReadyField (bytes_eq word (codes "bool")) (flag_by (key_by (as_str p.0)) (as_bool p.1)) _ (flag-ready (key_by (as_str p.0)) (as_bool p.1))
     (holds-either IsReadyField (bytes_eq word (codes "teaser")) (teaser_by (key_by (as_str p.0)) (snapshot_by (as_str p.1))) None (teaser-ready (key_by (as_str p.0)) (snapshot_by (as_str p.1))) tt)))
 
@@ -135,32 +144,32 @@ fields-ready d = fields_at-ready (option_and_then only (as_table d))
 
 -- ---- fields with their numbers
 
-pub field-more : (c d p q : ℕ) → c ≤ d → p ≤ q → (f : Field) → IsFieldWithin c p f → IsFieldWithin d q f
+pub field-more : (c d p q : ℕ) → c ≤ d → p ≤ q → (f : Field) → IsLinkedField c p f → IsLinkedField d q f
 field-more c d p q le lq Body h = tt
 field-more c d p q le lq Metadata h = tt
 field-more c d p q le lq Url h = tt
 field-more c d p q le lq Path h = tt
 field-more c d p q le lq Title h = tt
 field-more c d p q le lq (Const key text) h = tt
-field-more c d p q le lq (Date key text) h = tt
+field-more c d p q le lq (Date key text) h = h
 field-more c d p q le lq (BoolField key flag) h = tt
 field-more c d p q le lq (Teaser key snapshot) h = tt
 field-more c d p q le lq (ListField key of snapshot order limit context) h = let a = h.0 in let b = h.1 in (omega arith, omega arith, h.2)
 
-plain-within : (c p : ℕ) (f : Field) → IsPlainField f → IsFieldWithin c p f
+plain-within : (c p : ℕ) (f : Field) → IsPlainField f → IsLinkedField c p f
 plain-within c p Body h = tt
 plain-within c p Metadata h = tt
 plain-within c p Url h = tt
 plain-within c p Path h = tt
 plain-within c p Title h = tt
 plain-within c p (Const key text) h = tt
-plain-within c p (Date key text) h = tt
+plain-within c p (Date key text) h = h
 plain-within c p (BoolField key flag) h = tt
 plain-within c p (Teaser key snapshot) h = tt
 plain-within c p (ListField key of snapshot order limit context) h = absurd h
 
 abbrev pub FieldsWithin : ℕ → List Pattern → List Field → Type 0
-FieldsWithin contexts pool fields = AllByRecursion (IsFieldWithin contexts (length pool)) fields
+FieldsWithin contexts pool fields = AllByRecursion (IsLinkedField contexts (length pool)) fields
 
 pub default-within : (contexts : ℕ) (pool : List Pattern) → FieldsWithin contexts pool default_fields
 default-within contexts pool = (tt, (tt, (tt, (tt, (tt, tt)))))
@@ -171,22 +180,22 @@ pub record AreLinkedFields (contexts : ℕ) (pool : List Pattern) (r : List Fiel
   pub grown : IsGrown pool r.1
 
 pub fields-more : (c d : ℕ) (pool next : List Pattern) → c ≤ d → IsGrown pool next → (fields : List Field) → FieldsWithin c pool fields → FieldsWithin d next fields
-fields-more c d pool next le g fields h = all-weaken (IsFieldWithin c (length pool)) (IsFieldWithin d (length next)) (field-more c d (length pool) (length next) le g.long) fields h
+fields-more c d pool next le g fields h = all-weaken (IsLinkedField c (length pool)) (IsLinkedField d (length next)) (field-more c d (length pool) (length next) le g.long) fields h
 
 list-linked : (names : List Bytes) (pool : List Pattern) (done : List Field) (key : Bytes) (of : Pattern) (snapshot : Bytes) (order : Order) (limit : Option ℕ) (o : Option ℕ) → IsLimit limit → FieldsWithin (length names) pool done → Below (length names) o → Holds (AreLinkedFields (length names) pool) (list_field done (numbered pool of) key snapshot order limit o)
 list-linked names pool done key of snapshot order limit None low h below = tt
 list-linked names pool done key of snapshot order limit (Some context) low h below =
     let r = numbered pool of in
     record {
-      within = all-push (IsFieldWithin (length names) (length r.1)) done (ListField key r.0 snapshot order limit context) (fields-more (length names) (length names) pool r.1 (omega arith) (numbered-grown pool of) done h) (numbered-below pool of, below, low);
+      within = all-push (IsLinkedField (length names) (length r.1)) done (ListField key r.0 snapshot order limit context) (fields-more (length names) (length names) pool r.1 (omega arith) (numbered-grown pool of) done h) (numbered-below pool of, below, low);
       grown = numbered-grown pool of;
     }
 
 link_field-linked : (names : List Bytes) (pool : List Pattern) (done : List Field) (draft : DraftField) → IsReadyField draft → FieldsWithin (length names) pool done → Holds (AreLinkedFields (length names) pool) (link_field names pool done draft)
 link_field-linked names pool done Default ready h =
-    record { within = all-append (IsFieldWithin (length names) (length pool)) done default_fields h (default-within (length names) pool); grown = grown-same pool }
+    record { within = all-append (IsLinkedField (length names) (length pool)) done default_fields h (default-within (length names) pool); grown = grown-same pool }
 link_field-linked names pool done (Whole field) ready h =
-    record { within = all-push (IsFieldWithin (length names) (length pool)) done field h (plain-within (length names) (length pool) field ready); grown = grown-same pool }
+    record { within = all-push (IsLinkedField (length names) (length pool)) done field h (plain-within (length names) (length pool) field ready); grown = grown-same pool }
 link_field-linked names pool done (Several key of snapshot order limit context) ready h =
     list-linked names pool done key of snapshot order limit (place_of context names) ready h (place_of-below context names)
 

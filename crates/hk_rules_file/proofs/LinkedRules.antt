@@ -25,6 +25,7 @@ use Rattle.hk_rules_file.specs.Linking.{link_steps}
 use Rattle.hk_rules_file.specs.RuleForm.{draft_by, draft_in, source_in, steps_in, optional, first_other, is_rule_key, finished, numbered_rule, rule_by, next_rule, rules_from}
 use Rattle.hk_rules_file.specs.RulesForm.{whole, after_contexts, parts_in}
 use Rattle.hk_forms.specs.IdForm.{version_of}
+use Rattle.hk_forms.specs.Names.{is_snapshot_name}
 use Rattle.hk_forms.specs.RouteForm.{route_of}
 use Rattle.hk_rules_file.specs.Rules.{RulesView}
 use Rattle.hk_steps.specs.StepForm.{final_name, chain_by}
@@ -34,7 +35,7 @@ use Rattle.hk_rules_file.specs.declared.rules.Rule.{Rule}
 use Rattle.hk_rules_file.specs.declared.rules.RuleSource.{RuleSource}
 use Rattle.hk_rules_file.specs.declared.fault.RulesFault.{RulesFault}
 use Rattle.hk_rules_file.proofs.LinkedNumbers.{all-push, all-weaken, distinct-push, IsGrown, grown-same, grown-more}
-use Rattle.hk_rules_file.proofs.LinkedSteps.{Holds, IsReady, AreSaves, no-saves, AreLinkedSteps, chain-ready, within-more, link_steps-linked}
+use Rattle.hk_rules_file.proofs.LinkedSteps.{Holds, IsReady, AreSaves, no-saves, AreLinkedSteps, chain-ready, chain-short, link_steps-length, not-final, within-more, link_steps-linked}
 use Rattle.hk_rules_file.proofs.LinkedRoutes.{route-bytes}
 use Rattle.hk_rules_file.proofs.LinkedContexts.{keys_in, AreContexts, contexts-more, contexts_in-contexts, contexts-distinct, contexts-many}
 
@@ -43,15 +44,16 @@ use Rattle.hk_rules_file.proofs.LinkedContexts.{keys_in, AreContexts, contexts-m
 -- the steps and the route of a rule that is read
 record IsReadyRule (draft : DraftRule) : Type 0 where
   steps : AllByRecursion IsReady draft.steps
+  short : length draft.steps ≤ 64
   route : IsRouted draft.route
 
-draft_by-ready : (n : ℕ) (key : Option Bytes) (source : Result RuleSource Bytes) (version : Option (Option Bytes)) (route : Option (Option Route)) (steps : Option (List DraftStep)) → Holds IsRouted route → Holds (AllByRecursion IsReady) steps → IfOk (draft_by n key source version route steps) IsReadyRule
-draft_by-ready n (Some key) source version route steps r h = tt
-draft_by-ready n None (Err key) version route steps r h = tt
-draft_by-ready n None (Ok source) None route steps r h = tt
-draft_by-ready n None (Ok source) (Some version) None steps r h = tt
-draft_by-ready n None (Ok source) (Some version) (Some route) None r h = tt
-draft_by-ready n None (Ok source) (Some version) (Some route) (Some steps) r h = record { steps = h; route = r }
+draft_by-ready : (n : ℕ) (key : Option Bytes) (source : Result RuleSource Bytes) (version : Option (Option Bytes)) (route : Option (Option Route)) (steps : Option (List DraftStep)) → Holds IsRouted route → Holds (AllByRecursion IsReady) steps → Holds (λ drafts. length drafts ≤ 64) steps → IfOk (draft_by n key source version route steps) IsReadyRule
+draft_by-ready n (Some key) source version route steps r h k = tt
+draft_by-ready n None (Err key) version route steps r h k = tt
+draft_by-ready n None (Ok source) None route steps r h k = tt
+draft_by-ready n None (Ok source) (Some version) None steps r h k = tt
+draft_by-ready n None (Ok source) (Some version) (Some route) None r h k = tt
+draft_by-ready n None (Ok source) (Some version) (Some route) (Some steps) r h k = record { steps = h; short = k; route = r }
 
 some-routed : (route : Option Route) → Holds (λ by. has_bytes by ≡ true) route → Holds IsRouted (option_map Some route)
 some-routed None h = tt
@@ -66,9 +68,10 @@ unfolding draft_in steps_in
 draft_in-ready n ms =
     draft_by-ready n (first_other is_rule_key ms) (source_in ms) (optional version_of (get_member (codes "version") ms)) (optional route_of (get_member (codes "route") ms)) (steps_in ms) (routed (get_member (codes "route") ms))
     (chain-ready (is_some (get_member (codes "create") ms)) (get_member (codes "compile") ms))
+    (chain-short (is_some (get_member (codes "create") ms)) (get_member (codes "compile") ms))
 
 pub chain-more : (c d p q : ℕ) → c ≤ d → p ≤ q → (steps : List Step) → IsLinkedChain c p steps → IsLinkedChain d q steps
-chain-more c d p q le lq steps h = record { within = all-weaken (IsStepWithin c p) (IsStepWithin d q) (within-more c d p q le lq) steps h.within; names = h.names }
+chain-more c d p q le lq steps h = record { short = h.short; within = all-weaken (IsStepWithin c p) (IsStepWithin d q) (within-more c d p q le lq) steps h.within; names = h.names; saved = h.saved }
 
 -- a rule, and the patterns then
 record IsLinkedRule (names : List Bytes) (pool : List Pattern) (r : Rule × List Pattern) : Type 0 where
@@ -76,18 +79,18 @@ record IsLinkedRule (names : List Bytes) (pool : List Pattern) (r : Rule × List
   route : IsRouted r.0.route
   grown : IsGrown pool r.1
 
-finished-linked : (names : List Bytes) (pool : List Pattern) (draft : DraftRule) → IsRouted draft.route → (r : Result (List Step × List Pattern) RulesFault) → IfOk r (AreLinkedSteps names pool) → IfOk (finished draft r) (IsLinkedRule names pool)
-finished-linked names pool draft to (Err fault) h = tt
-finished-linked names pool draft to (Ok r) h =
+finished-linked : (names : List Bytes) (pool : List Pattern) (draft : DraftRule) → length draft.steps ≤ 64 → IsRouted draft.route → (r : Result (List Step × List Pattern) RulesFault) → IfOk r (λ x. length x.0 ≡ 0 + length draft.steps) → IfOk r (AreLinkedSteps names pool) → IfOk (finished draft r) (IsLinkedRule names pool)
+finished-linked names pool draft short to (Err fault) long h = tt
+finished-linked names pool draft short to (Ok r) long h =
     record {
-      chain = record { within = h.within; names = distinct-push bytes_eq _ final_name h.saves.apart h.saves.none_final };
+      chain = record { short = omega (arith, long); within = h.within; names = distinct-push bytes_eq _ final_name h.saves.apart (all-weaken (λ name. is_snapshot_name name ≡ true) (λ name. bytes_eq name final_name ≡ false) not-final _ h.saves.named); saved = h.saves.named };
       route = to;
       grown = h.grown;
     }
 
 numbered-linked : (n : ℕ) (names : List Bytes) (pool : List Pattern) (r : Result DraftRule RulesFault) → IfOk r IsReadyRule → IfOk (numbered_rule n names pool r) (IsLinkedRule names pool)
 numbered-linked n names pool (Err fault) h = tt
-numbered-linked n names pool (Ok draft) h = finished-linked names pool draft h.route (link_steps n names draft.steps pool []) (link_steps-linked n names draft.steps pool [] h.steps (tt, no-saves))
+numbered-linked n names pool (Ok draft) h = finished-linked names pool draft h.short h.route (link_steps n names draft.steps pool []) (link_steps-length n names draft.steps pool []) (link_steps-linked n names draft.steps pool [] h.steps (tt, no-saves))
 
 rule-linked : (n : ℕ) (names : List Bytes) (pool : List Pattern) (ms : Option Members) → IfOk (rule_by n names pool ms) (IsLinkedRule names pool)
 rule-linked n names pool None = tt

@@ -1,6 +1,7 @@
 -- Steps that are read have numbers in range, and a chain's saves differ.
-use Rattle.std.proofs.Common.{◌≡◌, ℕ, ◌<◌, ◌≤◌, Bool, true, false, cond, ◌||◌, List, [], ◌∷◌, ◌++◌, length, filter_map, Option, Some, None, Result, Ok, Err, IfOk, refl, sym, ap, subst, ◌∙◌, arith, append-nil}
-use Rattle.std.specs.Prelude.{bytes_eq, codes}
+use Rattle.std.proofs.Common.{◌≡◌, ℕ, suc, ◌+◌, ◌<◌, ◌≤◌, Bool, true, false, cond, ◌||◌, List, [], ◌∷◌, ◌++◌, length, filter_map, Option, Some, None, Result, Ok, Err, IfOk, refl, sym, ap, subst, ◌∙◌, arith, append-nil, length-append}
+use Rattle.std.specs.Prelude.{bytes_eq, codes, nat_le}
+use borrow.Author.Tests.{leb-true}
 use Rattle.std.specs.List.{AllByRecursion, IsDistinct, list_any, cons_option}
 use Rattle.std.specs.Option.{option_map}
 use Rattle.std.proofs.lemmas.List.Elements.{filter_map-append}
@@ -8,13 +9,14 @@ use Rattle.toml.specs.Data.{Data, Items, no_items, item, Members, as_str, as_arr
 use Rattle.hk_base.specs.Bytes.{Bytes}
 use Rattle.hk_base.specs.Identifier.{Ident}
 use Rattle.hk_base.specs.Ties.{bytes-same}
-use Rattle.hk_base.proofs.Both.{not-both}
+use Rattle.hk_base.proofs.Both.{right-part, not-both}
 use Rattle.hk_chain.specs.declared.chain.Step.{Step}
 use Rattle.hk_chain.specs.declared.chain.Step.TheVariants.{Body, Str, Copy, TemplateBody, Make, Load, Concat, Apply, SelfApply, Save, Relativize}
 use Rattle.hk_pattern.specs.declared.pattern.Pattern.{Pattern}
 use Rattle.hk_forms.specs.IdForm.{id_of}
 use Rattle.hk_rules_file.specs.Linked.{IsStepWithin}
-use Rattle.hk_rules_file.specs.Linking.{saved_name, is_named, saves, saving, ready_by, apply_step, self_step, Linked, link_step, link_steps, next_step}
+use Rattle.hk_rules_file.specs.Saves.{saved}
+use Rattle.hk_rules_file.specs.Linking.{is_named, saves_as, saving, ready_by, apply_step, self_step, Linked, link_step, link_steps, next_step}
 use Rattle.hk_forms.specs.Members.{cons, each, fits, only, both, count_items}
 use Rattle.hk_forms.specs.Names.{is_snapshot_name}
 use Rattle.hk_rules_file.specs.Numbering.{place_of, numbered}
@@ -55,28 +57,28 @@ holds-each P f all (item d ds) = holds-cons P (f d) (each f ds) (all d) (holds-e
 
 -- ---- steps as they are read
 
--- a step that has no number, and that saves no `_final`
+-- a step that has no number, and that saves under a snapshot's name
 abbrev pub IsPlain : Step → Type 0
 IsPlain (Concat pattern) = ⊥
 IsPlain (Apply id context) = ⊥
 IsPlain (SelfApply context) = ⊥
-IsPlain (Save name) = bytes_eq name final_name ≡ false
+IsPlain (Save name) = is_snapshot_name name ≡ true
 IsPlain _ = Unit {0}
 
 abbrev pub IsReady : DraftStep → Type 0
 IsReady (Ready step) = IsPlain step
 IsReady _ = Unit {0}
 
-not-final : (name : Bytes) → is_snapshot_name name ≡ true → bytes_eq name final_name ≡ false
+pub not-final : (name : Bytes) → is_snapshot_name name ≡ true → bytes_eq name final_name ≡ false
 not-final name h = elim (bytes_eq name final_name) as (λ b. bytes_eq name final_name ≡ b → b ≡ false) [
   | true ↦ λ e. not-both (is_snapshot_name final_name) (subst (λ n. is_snapshot_name n ≡ true) (bytes-same name final_name e) h) refl
   | false ↦ λ e. refl
 ] refl
 
-snapshot-not-final : (text : Option Bytes) → Holds (λ name. bytes_eq name final_name ≡ false) (snapshot_by text)
-snapshot-not-final None = tt
-snapshot-not-final (Some text) = elim (is_snapshot_name text) as (λ b. is_snapshot_name text ≡ b → Holds (λ name. bytes_eq name final_name ≡ false) (cond b (Some text) None)) [
-  | true ↦ λ e. not-final text e
+snapshot-named : (text : Option Bytes) → Holds (λ name. is_snapshot_name name ≡ true) (snapshot_by text)
+snapshot-named None = tt
+snapshot-named (Some text) = elim (is_snapshot_name text) as (λ b. is_snapshot_name text ≡ b → Holds (λ name. is_snapshot_name name ≡ true) (cond b (Some text) None)) [
+  | true ↦ λ e. e
   | false ↦ λ e. tt
 ] refl
 
@@ -106,7 +108,7 @@ keyed-ready key d =
     (holds-either IsReady (bytes_eq key (codes "concat")) (option_map DraftConcat (pattern_of d)) _ (holds-map IsReady DraftConcat (pattern_of d) (holds-all _ (λ p. tt) (pattern_of d)))
     (holds-either IsReady (bytes_eq key (codes "apply")) (apply_by (id_of d) (Some default_name)) _ (apply-ready (id_of d) (Some default_name))
     (holds-either IsReady (bytes_eq key (codes "self")) (option_map DraftSelf (context_by (as_str d))) _ (holds-map IsReady DraftSelf (context_by (as_str d)) (holds-all _ (λ n. tt) (context_by (as_str d))))
-    (holds-either IsReady (bytes_eq key (codes "save")) (option_map (λ name. Ready (Save name)) (snapshot_by (as_str d))) None (holds-map IsReady (λ name. Ready (Save name)) (snapshot_by (as_str d)) (snapshot-not-final (as_str d))) tt)))))
+    (holds-either IsReady (bytes_eq key (codes "save")) (option_map (λ name. Ready (Save name)) (snapshot_by (as_str d))) None (holds-map IsReady (λ name. Ready (Save name)) (snapshot_by (as_str d)) (snapshot-named (as_str d))) tt)))))
 
 paired-ready : (loaded applied : Option (Data × Data)) → Holds IsReady (paired loaded applied)
 paired-ready (Some p) applied = load-ready (id_of p.0) (snapshot_by (as_str p.1))
@@ -125,20 +127,63 @@ step_by-ready : (created : Bool) (word : Option Bytes) (ms : Option Members) →
 step_by-ready created (Some word) ms = holds-map IsReady Ready (word_step created word) (word-plain created word)
 step_by-ready created None ms = in_table-ready ms
 
-few_saves-ready : (steps : Option (List DraftStep)) → Holds (AllByRecursion IsReady) steps → Holds (AllByRecursion IsReady) (few_saves steps)
-few_saves-ready None h = tt
-few_saves-ready (Some steps) h = holds-either (AllByRecursion IsReady) (fits saves_of most_saves steps) (Some steps) None h tt
+few_saves-holds : (P : List DraftStep → Type 0) (steps : Option (List DraftStep)) → Holds P steps → Holds P (few_saves steps)
+few_saves-holds P None h = tt
+few_saves-holds P (Some steps) h = holds-either P (fits saves_of most_saves steps) (Some steps) None h tt
 
 steps_by-ready : (created : Bool) (ds : Option Items) → Holds (AllByRecursion IsReady) (steps_by created ds)
 steps_by-ready created None = tt
 steps_by-ready created (Some ds) =
     holds-either (AllByRecursion IsReady) (fits_chain (count_items ds)) (few_saves (each (step_of created) ds)) None
-    (few_saves-ready (each (step_of created) ds) (holds-each IsReady (step_of created) (λ d. step_by-ready created (as_str d) (as_table d)) ds)) tt
+    (few_saves-holds (AllByRecursion IsReady) (each (step_of created) ds) (holds-each IsReady (step_of created) (λ d. step_by-ready created (as_str d) (as_table d)) ds)) tt
 
 -- the steps of a chain that is read
 pub chain-ready : (created : Bool) (d : Option Data) → Holds (AllByRecursion IsReady) (chain_by created d)
 chain-ready created None = tt
 chain-ready created (Some d) = steps_by-ready created (as_array d)
+
+-- ---- how many steps there are
+
+one-longer : {X : Type 0} (o : Option X) (os : Option (List X)) (n : ℕ) → Holds (λ xs. length xs ≡ n) os → Holds (λ xs. length xs ≡ n + 1) (cons o os)
+one-longer None os n h = tt
+one-longer (Some x) None n h = tt
+one-longer (Some x) (Some xs) n h = omega (arith, h)
+
+each-length : {X : Type 0} (f : Data → Option X) (ds : Items) → Holds (λ xs. length xs ≡ count_items ds) (each f ds)
+each-length f no_items = refl
+each-length f (item d ds) = one-longer (f d) (each f ds) (count_items ds) (each-length f ds)
+
+abbrev IsShort : List DraftStep → Type 0
+IsShort steps = length steps ≤ 64
+
+short-by : (n : ℕ) → n ≤ 64 → (steps : Option (List DraftStep)) → Holds (λ xs. length xs ≡ n) steps → Holds IsShort steps
+short-by n le None h = tt
+short-by n le (Some steps) h = omega (arith, h)
+
+steps_by-short : (created : Bool) (ds : Option Items) → Holds IsShort (steps_by created ds)
+steps_by-short created None = tt
+steps_by-short created (Some ds) = elim (fits_chain (count_items ds)) as (λ b. fits_chain (count_items ds) ≡ b → Holds IsShort (cond b (few_saves (each (step_of created) ds)) None)) [
+  | true ↦ λ e. few_saves-holds IsShort (each (step_of created) ds)
+      (short-by (count_items ds) (leb-true (count_items ds) 64 (right-part (nat_le 1 (count_items ds)) (nat_le (count_items ds) 64) e)) (each (step_of created) ds) (each-length (step_of created) ds))
+  | false ↦ λ e. tt
+] refl
+
+-- a chain that is read
+pub chain-short : (created : Bool) (d : Option Data) → Holds (λ steps. length steps ≤ 64) (chain_by created d)
+chain-short created None = tt
+chain-short created (Some d) = steps_by-short created (as_array d)
+
+length-next : (done : List Step) (s : Step) (k : ℕ) (r : Result (List Step × List Pattern) RulesFault) → IfOk r (λ x. length x.0 ≡ length (done ++ s ∷ []) + k) → IfOk r (λ x. length x.0 ≡ length done + suc k)
+length-next done s k (Err fault) h = tt
+length-next done s k (Ok r) h = omega (arith, h, length-append done (s ∷ []))
+
+step-length : (done : List Step) (k : ℕ) (rest : List Pattern → List Step → Result (List Step × List Pattern) RulesFault) → ((q : List Pattern) (d : List Step) → IfOk (rest q d) (λ x. length x.0 ≡ length d + k)) → (r : Linked) → IfOk (next_step rest done r) (λ x. length x.0 ≡ length done + suc k)
+step-length done k rest later (Err fault) = tt
+step-length done k rest later (Ok r) = length-next done r.0 k (rest r.1 (done ++ r.0 ∷ [])) (later r.1 (done ++ r.0 ∷ []))
+
+pub link_steps-length : (n : ℕ) (names : List Bytes) (drafts : List DraftStep) (pool : List Pattern) (done : List Step) → IfOk (link_steps n names drafts pool done) (λ x. length x.0 ≡ length done + length drafts)
+link_steps-length n names [] pool done = omega arith
+link_steps-length n names (draft ∷ drafts) pool done = step-length done (length drafts) (link_steps n names drafts) (λ q d. link_steps-length n names drafts q d) (link_step n names pool done draft)
 
 -- ---- steps with their numbers
 
@@ -168,29 +213,29 @@ plain-within c p (SelfApply n) h = absurd h
 plain-within c p (Save name) h = tt
 plain-within c p Relativize h = tt
 
--- the names under which steps save differ, and none is that of the finished page
+-- the names under which steps save differ, and each is a snapshot's
 pub record AreSaves (steps : List Step) : Type 0 where
-  pub apart : IsDistinct bytes_eq (filter_map saved_name steps)
-  pub none_final : AllByRecursion (λ name. bytes_eq name final_name ≡ false) (filter_map saved_name steps)
+  pub apart : IsDistinct bytes_eq (filter_map saved steps)
+  pub named : AllByRecursion (λ name. is_snapshot_name name ≡ true) (filter_map saved steps)
 
 pub no-saves : AreSaves []
 unfolding IsDistinct
-no-saves = record { apart = tt; none_final = tt }
+no-saves = record { apart = tt; named = tt }
 
-saves-none : (steps : List Step) (s : Step) → saved_name s ≡ None → AreSaves steps → AreSaves (steps ++ s ∷ [])
+saves-none : (steps : List Step) (s : Step) → saved s ≡ None → AreSaves steps → AreSaves (steps ++ s ∷ [])
 saves-none steps s e h =
-    let same : filter_map saved_name (steps ++ s ∷ []) ≡ filter_map saved_name steps = filter_map-append saved_name steps (s ∷ []) ∙ ap (λ o. filter_map saved_name steps ++ cons_option o []) e ∙ append-nil (filter_map saved_name steps) in
+    let same : filter_map saved (steps ++ s ∷ []) ≡ filter_map saved steps = filter_map-append saved steps (s ∷ []) ∙ ap (λ o. filter_map saved steps ++ cons_option o []) e ∙ append-nil (filter_map saved steps) in
     record {
       apart = subst (IsDistinct bytes_eq) (sym same) h.apart;
-      none_final = subst (AllByRecursion (λ name. bytes_eq name final_name ≡ false)) (sym same) h.none_final;
+      named = subst (AllByRecursion (λ name. is_snapshot_name name ≡ true)) (sym same) h.named;
     }
 
-saves-some : (steps : List Step) (s : Step) (name : Bytes) → saved_name s ≡ Some name → AllByRecursion (λ x. bytes_eq x name ≡ false) (filter_map saved_name steps) → bytes_eq name final_name ≡ false → AreSaves steps → AreSaves (steps ++ s ∷ [])
-saves-some steps s name e others free h =
-    let same : filter_map saved_name (steps ++ s ∷ []) ≡ filter_map saved_name steps ++ name ∷ [] = filter_map-append saved_name steps (s ∷ []) ∙ ap (λ o. filter_map saved_name steps ++ cons_option o []) e in
+saves-some : (steps : List Step) (s : Step) (name : Bytes) → saved s ≡ Some name → AllByRecursion (λ x. bytes_eq x name ≡ false) (filter_map saved steps) → is_snapshot_name name ≡ true → AreSaves steps → AreSaves (steps ++ s ∷ [])
+saves-some steps s name e others own h =
+    let same : filter_map saved (steps ++ s ∷ []) ≡ filter_map saved steps ++ name ∷ [] = filter_map-append saved steps (s ∷ []) ∙ ap (λ o. filter_map saved steps ++ cons_option o []) e in
     record {
-      apart = subst (IsDistinct bytes_eq) (sym same) (distinct-push bytes_eq (filter_map saved_name steps) name h.apart others);
-      none_final = subst (AllByRecursion (λ name. bytes_eq name final_name ≡ false)) (sym same) (all-push _ (filter_map saved_name steps) name h.none_final free);
+      apart = subst (IsDistinct bytes_eq) (sym same) (distinct-push bytes_eq (filter_map saved steps) name h.apart others);
+      named = subst (AllByRecursion (λ name. is_snapshot_name name ≡ true)) (sym same) (all-push _ (filter_map saved steps) name h.named own);
     }
 
 either-left : (a b : Bool) → (a || b) ≡ false → a ≡ false
@@ -201,14 +246,14 @@ either-rest : (a b : Bool) → (a || b) ≡ false → b ≡ false
 either-rest true b e = absurd (not-both true refl e)
 either-rest false b e = e
 
-unsaved-step : (name : Bytes) (steps : List Step) → (list_any (saves name) steps ≡ false → AllByRecursion (λ x. bytes_eq x name ≡ false) (filter_map saved_name steps)) → (o : Option Bytes) → (is_named name o || list_any (saves name) steps) ≡ false → AllByRecursion (λ x. bytes_eq x name ≡ false) (cons_option o (filter_map saved_name steps))
+unsaved-step : (name : Bytes) (steps : List Step) → (list_any (saves_as name) steps ≡ false → AllByRecursion (λ x. bytes_eq x name ≡ false) (filter_map saved steps)) → (o : Option Bytes) → (is_named name o || list_any (saves_as name) steps) ≡ false → AllByRecursion (λ x. bytes_eq x name ≡ false) (cons_option o (filter_map saved steps))
 unsaved-step name steps rest None h = rest h
-unsaved-step name steps rest (Some other) h = (either-left (bytes_eq other name) (list_any (saves name) steps) h, rest (either-rest (bytes_eq other name) (list_any (saves name) steps) h))
+unsaved-step name steps rest (Some other) h = (either-left (bytes_eq other name) (list_any (saves_as name) steps) h, rest (either-rest (bytes_eq other name) (list_any (saves_as name) steps) h))
 
 -- no step saves under a name
-unsaved : (name : Bytes) (steps : List Step) → list_any (saves name) steps ≡ false → AllByRecursion (λ x. bytes_eq x name ≡ false) (filter_map saved_name steps)
+unsaved : (name : Bytes) (steps : List Step) → list_any (saves_as name) steps ≡ false → AllByRecursion (λ x. bytes_eq x name ≡ false) (filter_map saved steps)
 unsaved name [] h = tt
-unsaved name (s ∷ steps) h = unsaved-step name steps (unsaved name steps) (saved_name s) h
+unsaved name (s ∷ steps) h = unsaved-step name steps (unsaved name steps) (saved s) h
 
 -- a step after those that are done, and the patterns then
 pub record IsLinkedStep (names : List Bytes) (pool : List Pattern) (done : List Step) (r : Step × List Pattern) : Type 0 where
@@ -216,48 +261,44 @@ pub record IsLinkedStep (names : List Bytes) (pool : List Pattern) (done : List 
   pub grown : IsGrown pool r.1
   pub saves : AreSaves done → AreSaves (done ++ r.0 ∷ [])
 
-name-free : (s : Step) (name : Bytes) → IsPlain s → saved_name s ≡ Some name → bytes_eq name final_name ≡ false
-unfolding saved_name
-name-free Body name h e = cc
-name-free Str name h e = cc
-name-free Copy name h e = cc
-name-free TemplateBody name h e = cc
-name-free (Make text) name h e = cc
-name-free (Load id snapshot) name h e = cc
-name-free (Concat n) name h e = cc
-name-free (Apply id n) name h e = cc
-name-free (SelfApply n) name h e = cc
-name-free (Save own) name h e = let same : own ≡ name = cc in subst (λ n. bytes_eq n final_name ≡ false) same h
-name-free Relativize name h e = cc
+name-of-snapshot : (s : Step) (name : Bytes) → IsPlain s → saved s ≡ Some name → is_snapshot_name name ≡ true
+name-of-snapshot Body name h e = cc
+name-of-snapshot Str name h e = cc
+name-of-snapshot Copy name h e = cc
+name-of-snapshot TemplateBody name h e = cc
+name-of-snapshot (Make text) name h e = cc
+name-of-snapshot (Load id snapshot) name h e = cc
+name-of-snapshot (Concat n) name h e = cc
+name-of-snapshot (Apply id n) name h e = cc
+name-of-snapshot (SelfApply n) name h e = cc
+name-of-snapshot (Save own) name h e = let same : own ≡ name = cc in subst (λ n. is_snapshot_name n ≡ true) same h
+name-of-snapshot Relativize name h e = cc
 
-link-ready : (n : ℕ) (names : List Bytes) (pool : List Pattern) (done : List Step) (s : Step) → IsPlain s → (o : Option Bytes) → saved_name s ≡ o → IfOk (ready_by n pool done s o) (IsLinkedStep names pool done)
+link-ready : (n : ℕ) (names : List Bytes) (pool : List Pattern) (done : List Step) (s : Step) → IsPlain s → (o : Option Bytes) → saved s ≡ o → IfOk (ready_by n pool done s o) (IsLinkedStep names pool done)
 link-ready n names pool done s plain None e =
     record { within = plain-within (length names) (length pool) s plain; grown = grown-same pool; saves = λ h. saves-none done s e h }
 link-ready n names pool done s plain (Some name) e =
-    elim (list_any (saves name) done) as (λ b. list_any (saves name) done ≡ b → IfOk (saving n pool s name b) (IsLinkedStep names pool done)) [
+    elim (list_any (saves_as name) done) as (λ b. list_any (saves_as name) done ≡ b → IfOk (saving n pool s name b) (IsLinkedStep names pool done)) [
       | true ↦ λ again. tt
       | false ↦ λ once. record {
         within = plain-within (length names) (length pool) s plain;
         grown = grown-same pool;
-        saves = λ h. saves-some done s name e (unsaved name done once) (name-free s name plain e) h;
+        saves = λ h. saves-some done s name e (unsaved name done once) (name-of-snapshot s name plain e) h;
       }
     ] refl
 
 apply-linked : (n : ℕ) (names : List Bytes) (pool : List Pattern) (done : List Step) (id : Ident) (name : Bytes) (o : Option ℕ) → Below (length names) o → IfOk (apply_step n pool id name o) (IsLinkedStep names pool done)
-unfolding saved_name
 apply-linked n names pool done id name None h = tt
 apply-linked n names pool done id name (Some context) h =
     record { within = h; grown = grown-same pool; saves = λ k. saves-none done (Apply id context) refl k }
 
 self-linked : (n : ℕ) (names : List Bytes) (pool : List Pattern) (done : List Step) (name : Bytes) (o : Option ℕ) → Below (length names) o → IfOk (self_step n pool name o) (IsLinkedStep names pool done)
-unfolding saved_name
 self-linked n names pool done name None h = tt
 self-linked n names pool done name (Some context) h =
     record { within = h; grown = grown-same pool; saves = λ k. saves-none done (SelfApply context) refl k }
 
 link_step-linked : (n : ℕ) (names : List Bytes) (pool : List Pattern) (done : List Step) (draft : DraftStep) → IsReady draft → IfOk (link_step n names pool done draft) (IsLinkedStep names pool done)
-unfolding saved_name
-link_step-linked n names pool done (Ready step) ready = link-ready n names pool done step ready (saved_name step) refl
+link_step-linked n names pool done (Ready step) ready = link-ready n names pool done step ready (saved step) refl
 link_step-linked n names pool done (DraftConcat p) ready =
     record { within = numbered-below pool p; grown = numbered-grown pool p; saves = λ k. saves-none done (Concat (numbered pool p).0) refl k }
 link_step-linked n names pool done (DraftApply id name) ready = apply-linked n names pool done id name (place_of name names) (place_of-below name names)

@@ -5,3 +5,4 @@ pub mod Numbering
 pub mod RuleForm
 pub mod Rules
 pub mod RulesForm
+pub mod Saves

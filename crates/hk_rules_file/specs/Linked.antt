@@ -1,19 +1,20 @@
--- Rules whose numbers are in range, and whose names differ.
-use Rattle.std.specs.Prelude.{ℕ, ◌<◌, ◌≤◌, ◌≡◌, Bool, true, false, List, [], ◌∷◌, ◌++◌, length, map, filter_map, Option, Some, None, IfSome, bytes_eq}
+-- Rules whose numbers are in range, whose names differ, and whose texts are of their form.
+use Rattle.std.specs.Prelude.{ℕ, ◌<◌, ◌≤◌, ◌≡◌, Bool, true, false, List, [], ◌∷◌, length, map, Option, Some, None, IfSome, bytes_eq}
 use Rattle.std.specs.List.{AllByRecursion, IsDistinct, list_all}
 use Rattle.hk_base.specs.Bytes.{Bytes}
 use Rattle.hk_chain.specs.Context.{ContextView}
 use Rattle.hk_chain.specs.declared.chain.Step.{Step}
 use Rattle.hk_chain.specs.declared.chain.Step.TheVariants.{Concat, Apply, SelfApply}
 use Rattle.hk_chain.specs.declared.context.Field.{Field}
-use Rattle.hk_chain.specs.declared.context.Field.TheVariants.{List as ListField}
+use Rattle.hk_chain.specs.declared.context.Field.TheVariants.{Date, List as ListField}
+use Rattle.hk_forms.specs.Names.{is_snapshot_name}
+use Rattle.hk_meta.specs.DatePattern.{pattern_ok}
 use Rattle.hk_pattern.specs.declared.pattern.Pattern.{Pattern}
 use Rattle.hk_route.specs.declared.route.Route.{Route, fold-Route}
 use Rattle.hk_route.specs.declared.route.Route.TheOpen.{Route-F}
-use Rattle.hk_rules_file.specs.Linking.{saved_name}
 use Rattle.hk_rules_file.specs.Numbering.{texts_of}
 use Rattle.hk_rules_file.specs.Rules.{RulesView}
-use Rattle.hk_steps.specs.StepForm.{final_name}
+use Rattle.hk_rules_file.specs.Saves.{saves, page_names}
 use Rattle.hk_rules_file.specs.declared.rules.Rule.{Rule}
 
 -- the numbers in a step are below those of the contexts and of the patterns
@@ -23,19 +24,19 @@ IsStepWithin contexts patterns (Apply id context) = context < contexts
 IsStepWithin contexts patterns (SelfApply context) = context < contexts
 IsStepWithin contexts patterns _ = Unit {0}
 
--- and those in a field; a limit is 1 at least
-abbrev pub IsFieldWithin : ℕ → ℕ → Field → Type 0
-IsFieldWithin contexts patterns (ListField key of snapshot order limit context) = (of < patterns) × (context < contexts) × IfSome limit (λ most. 1 ≤ most)
-IsFieldWithin contexts patterns _ = Unit {0}
+-- and those in a field; a limit is 1 at least, and a date's pattern is one to print by
+abbrev pub IsLinkedField : ℕ → ℕ → Field → Type 0
+IsLinkedField contexts patterns (Date key pattern) = pattern_ok pattern ≡ true
+IsLinkedField contexts patterns (ListField key of snapshot order limit context) = (of < patterns) × (context < contexts) × IfSome limit (λ most. 1 ≤ most)
+IsLinkedField contexts patterns _ = Unit {0}
 
--- the names of a chain's pages in order, the finished one last
-abbrev pub page_names : List Step → List Bytes
-page_names steps = filter_map saved_name steps ++ final_name ∷ []
-
--- a chain's numbers are in range, and its pages' names differ
+-- a chain has 64 steps at most, its numbers are in range, its pages' names differ, and those that it saves under are names
+-- of snapshots
 pub record IsLinkedChain (contexts patterns : ℕ) (steps : List Step) : Type 0 where
+  pub short : length steps ≤ 64
   pub within : AllByRecursion (IsStepWithin contexts patterns) steps
   pub names : IsDistinct bytes_eq (page_names steps)
+  pub saved : AllByRecursion (λ name. is_snapshot_name name ≡ true) (saves steps)
 
 abbrev pub name_of : ContextView → Bytes
 name_of context = context.name
@@ -43,9 +44,10 @@ name_of context = context.name
 abbrev pub context_names : List ContextView → List Bytes
 context_names contexts = map name_of contexts
 
--- the numbers in contexts are in range, no two contexts have one name, and no two patterns one text
+-- the numbers in contexts are in range, dates' patterns are of their form, no two contexts have one name, and no two
+-- patterns one text
 pub record AreLinked (contexts : List ContextView) (patterns : List Pattern) : Type 0 where
-  pub within : AllByRecursion (λ context. AllByRecursion (IsFieldWithin (length contexts) (length patterns)) context.fields) contexts
+  pub within : AllByRecursion (λ context. AllByRecursion (IsLinkedField (length contexts) (length patterns)) context.fields) contexts
   pub names : IsDistinct bytes_eq (context_names contexts)
   pub texts : IsDistinct bytes_eq (texts_of patterns)
 
@@ -67,7 +69,8 @@ has_bytes = fold-Route Bool has_bytes_by
 abbrev pub IsRouted : Option Route → Type 0
 IsRouted route = IfSome route (λ by. has_bytes by ≡ true)
 
--- the numbers in rules are in range, names and texts differ, and no empty text is replaced
+-- the numbers in rules are in range, names and texts differ, names of snapshots and patterns of dates are of their form,
+-- and no empty text is replaced
 pub record IsLinked (rules : RulesView) : Type 0 where
   pub chains : AllByRecursion (λ rule. IsLinkedChain (length rules.contexts) (length rules.patterns) rule.chain) rules.rules
   pub named : AreLinked rules.contexts rules.patterns

@@ -4,12 +4,13 @@ use Rattle.std.specs.List.{list_any}
 use Rattle.hk_base.specs.Bytes.{Bytes}
 use Rattle.hk_base.specs.Identifier.{Ident}
 use Rattle.hk_chain.specs.declared.chain.Step.{Step}
-use Rattle.hk_chain.specs.declared.chain.Step.TheVariants.{Concat, Apply, SelfApply, Save}
+use Rattle.hk_chain.specs.declared.chain.Step.TheVariants.{Concat, Apply, SelfApply}
 use Rattle.hk_chain.specs.declared.context.Order.{Order}
 use Rattle.hk_chain.specs.declared.context.Field.{Field}
 use Rattle.hk_chain.specs.declared.context.Field.TheVariants.{Body, Metadata, Url, Path, Title, List as ListField}
 use Rattle.hk_pattern.specs.declared.pattern.Pattern.{Pattern}
 use Rattle.hk_rules_file.specs.Numbering.{place_of, numbered}
+use Rattle.hk_rules_file.specs.Saves.{saved}
 use Rattle.hk_steps.specs.declared.draft.DraftStep.{DraftStep}
 use Rattle.hk_steps.specs.declared.draft.DraftStep.TheVariants.{Ready, Concat as DraftConcat, Apply as DraftApply, SelfApply as DraftSelf}
 use Rattle.hk_steps.specs.declared.draft.DraftField.{DraftField}
@@ -19,17 +20,13 @@ use Rattle.hk_rules_file.specs.declared.fault.RulesFault.TheVariants.{DoubleSnap
 
 -- ---- steps
 
--- the name under which a step saves
-unfoldable pub saved_name : Step → Option Bytes
-saved_name (Save name) = Some name
-saved_name _ = None
-
 abbrev pub is_named : Bytes → Option Bytes → Bool
 is_named name (Some other) = bytes_eq other name
 is_named name None = false
 
-abbrev pub saves : Bytes → Step → Bool
-saves name step = is_named name (saved_name step)
+-- whether a step saves under a name
+abbrev pub saves_as : Bytes → Step → Bool
+saves_as name step = is_named name (saved step)
 
 -- what a step is read as, with the patterns then
 abbrev pub Linked : Type 0
@@ -40,7 +37,7 @@ abbrev pub saving : ℕ → List Pattern → Step → Bytes → Bool → Linked
 saving n pool step name again = if again then Err (DoubleSnapshot n name) else Ok (step, pool)
 
 abbrev pub ready_by : ℕ → List Pattern → List Step → Step → Option Bytes → Linked
-ready_by n pool done step (Some name) = saving n pool step name (list_any (saves name) done)
+ready_by n pool done step (Some name) = saving n pool step name (list_any (saves_as name) done)
 ready_by n pool done step None = Ok (step, pool)
 
 abbrev pub concat_step : ℕ × List Pattern → Step × List Pattern
@@ -56,7 +53,7 @@ self_step n pool name None = Err (UnknownContext n name)
 
 -- a step of the rule with this number, among these contexts and patterns, after the steps that are done
 abbrev pub link_step : ℕ → List Bytes → List Pattern → List Step → DraftStep → Linked
-link_step n names pool done (Ready step) = ready_by n pool done step (saved_name step)
+link_step n names pool done (Ready step) = ready_by n pool done step (saved step)
 link_step n names pool done (DraftConcat pattern) = Ok (concat_step (numbered pool pattern))
 link_step n names pool done (DraftApply id name) = apply_step n pool id name (place_of name names)
 link_step n names pool done (DraftSelf name) = self_step n pool name (place_of name names)

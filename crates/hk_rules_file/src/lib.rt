@@ -10,11 +10,9 @@ mod numbering;
 mod reading;
 mod rule_form;
 mod rules;
-#[cfg(test)]
-mod tests;
-#[cfg(test)]
-mod values_tests;
+mod saves;
 
 pub use fault::RulesFault;
 pub use reading::read_rules;
 pub use rules::{Rule, RuleSource, Rules};
+pub use saves::saved;

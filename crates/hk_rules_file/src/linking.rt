@@ -1,12 +1,14 @@
 // Steps, with numbers in place of the contexts and the patterns that they name.
-ghost use Rattle.std.specs.Prelude.{◌≡◌, [], Ok, option_map};
+ghost use Rattle.std.specs.Prelude.{◌≡◌, [], Ok};
 ghost use Rattle.std.specs.List.{list_any};
 ghost use Rattle.hk_base.specs.Answers.{Answers};
 ghost use Rattle.hk_rules_file.specs.Numbering as numbering;
 ghost use Rattle.hk_rules_file.specs.Linking as spec;
+ghost use Rattle.hk_rules_file.specs.Saves as saves;
 
 use crate::fault::RulesFault;
 use crate::numbering::{Names, Pool};
+use crate::saves::saved;
 use hk_base::{Identifier, Refusal, Text};
 use hk_chain::{Chain, Step};
 use hk_pattern::Pattern;
@@ -58,9 +60,9 @@ fn ready_step(
     done: &[Step],
     step: Step,
 ) -> Result<(Step, Pool), Refusal<RulesFault>>
-    ensures { Answers (spec.ready_by number pool done.now step (spec.saved_name step)) result }
+    ensures { Answers (spec.ready_by number pool done.now step (saves.saved step)) result }
 {
-    if let Some(name) = saved_name(&step) {
+    if let Some(name) = saved(&step) {
         if has_save(done, name) {
             let name = Text::from_slice(alloc, name)?;
             return Err(Refusal::Fault(RulesFault::DoubleSnapshot { number, name }));
@@ -69,26 +71,16 @@ fn ready_step(
     Ok((step, pool))
 }
 
-#[tactic(auto, unfolding(crate::specs::Linking::saved_name))]
-fn saved_name(step: &Step) -> Option<&[u8]>
-    ensures { option_map (λ t. t.now) result ≡ spec.saved_name step.now }
-{
-    match step {
-        Step::Save(name) => Some(name.as_slice()),
-        _ => None,
-    }
-}
-
 fn has_save(done: &[Step], name: &[u8]) -> bool
-    ensures { result ≡ list_any (spec.saves name.now) done.now }
+    ensures { result ≡ list_any (spec.saves_as name.now) done.now }
 {
-    done.iter().any(|step| saves(name, step))
+    done.iter().any(|step| saves_as(name, step))
 }
 
-fn saves(name: &[u8], step: &Step) -> bool
-    ensures { result ≡ spec.saves name.now step.now }
+fn saves_as(name: &[u8], step: &Step) -> bool
+    ensures { result ≡ spec.saves_as name.now step.now }
 {
-    match saved_name(step) {
+    match saved(step) {
         Some(other) => other == name,
         None => false,
     }

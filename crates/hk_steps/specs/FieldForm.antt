@@ -7,7 +7,7 @@ use Rattle.hk_chain.specs.declared.context.Order.{Order}
 use Rattle.hk_chain.specs.declared.context.Order.TheVariants.{Id, Chronological, Recent}
 use Rattle.hk_pattern.specs.declared.pattern.Pattern.{Pattern}
 use Rattle.hk_meta.specs.DatePattern.{pattern_ok}
-use Rattle.hk_forms.specs.Names.{is_key}
+use Rattle.hk_base.specs.Key.{is_key}
 use Rattle.hk_forms.specs.Members.{keys_pass, fits, only, two, each, count_items}
 use Rattle.hk_forms.specs.PatternForm.{pattern_of}
 use Rattle.hk_steps.specs.StepForm.{final_name, context_by, snapshot_by}

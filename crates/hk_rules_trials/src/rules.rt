@@ -1,9 +1,9 @@
-// Which values the rules of two sites have.
-use crate::{Rule, RuleSource, Rules, read_rules};
+// Which values the rules of two files have.
 use hk_base::Text;
 use hk_chain::{Context, Field, Order, Step};
 use hk_pattern::Pattern;
 use hk_route::Route;
+use hk_rules::{Rule, RuleSource, Rules, read_rules};
 use std::alloc::{AllocError, Global};
 use std::test::Fail;
 
@@ -63,45 +63,19 @@ const BLOG_READ: [&str; 13] = [
     "posts/*",
 ];
 
-/// The rules of a site of many posts.
-const POSTS: &str = r#"
+/// Patterns that are named more than once.
+const SHARED: &str = r#"
 [[rule]]
-match = "posts/*"
-route = { extension = "html" }
-compile = ["body", { save = "content" }, { apply = "templates/post.html", context = "post" }, "relativize"]
-[[rule]]
-create = ["archive.html"]
-route = "id"
-compile = [{ make = "" }, { apply = "templates/list.html", context = "archive" }, "relativize"]
-[[rule]]
-create = ["index.html"]
-route = "id"
-compile = [{ make = "" }, { apply = "templates/list.html", context = "index" }, "relativize"]
-[[rule]]
-match = "templates/*"
-compile = ["template"]
-[context.post]
-fields = [{ date = ["date", "%Y-%m-%d"] }, "default"]
-[context.archive]
-fields = [{ list = "posts", of = "posts/*", order = "recent", context = "post" }, "default"]
-[context.index]
-fields = [{ list = "posts", of = "posts/*", order = "recent", limit = 10, snapshot = "content", context = "short" }, "default"]
-[context.short]
-fields = [{ teaser = ["short", "content"] }, "default"]
+create = ["all"]
+compile = [{ concat = "a" }, { concat = { not = "a" } }, { concat = { glob = "a" } }, { concat = { not = "a" } }]
 "#;
 
-/// What the rules, the contexts and the patterns of that site are.
-const POSTS_READ: [&str; 10] = [
-    "match posts/*, html: body, save content, apply templates/post.html 3, relativize",
-    "create archive.html, id: make, apply templates/list.html 0, relativize",
-    "create index.html, id: make, apply templates/list.html 2, relativize",
-    "match templates/*, no route: template",
-    "archive: list posts of 0 _final recent all 3, body, metadata, url, path, title",
+/// What the rule, the context that is built in and the patterns are.
+const SHARED_READ: [&str; 4] = [
+    "create all, no route: concat 0, concat 1, concat 0, concat 1",
     "default: body, metadata, url, path, title",
-    "index: list posts of 0 content recent 10 4, body, metadata, url, path, title",
-    "post: date date %Y-%m-%d, body, metadata, url, path, title",
-    "short: teaser short content, body, metadata, url, path, title",
-    "posts/*",
+    "a",
+    "?",
 ];
 
 fn shown(text: &Text) -> &str {
@@ -162,6 +136,10 @@ fn step_text(alloc: Global, step: &Step) -> Result<String, AllocError> {
         Step::Save(name) => {
             let name = shown(name);
             format!(in alloc; "save {name}")
+        }
+        Step::Concat(pattern) => {
+            let pattern = pattern.0;
+            format!(in alloc; "concat {pattern}")
         }
         Step::Relativize => format!(in alloc; "relativize"),
         _ => format!(in alloc; "?"),
@@ -236,49 +214,47 @@ fn context_text(alloc: Global, context: &Context) -> Result<String, AllocError> 
     Ok(text)
 }
 
-/// A line for each rule, each context and each pattern that a text has.
-fn lines_of(alloc: Global, text: &str) -> Result<Vec<String>, Fail> {
-    let Rules {
-        rules,
-        contexts,
-        patterns,
-    } = read_rules(alloc, text.as_bytes()).ok().ok_or("refused")?;
+/// The rules that a text has.
+fn read(alloc: Global, text: &str) -> Result<Rules, Fail> {
+    Ok(read_rules(alloc, text.as_bytes()).ok().ok_or("refused")?)
+}
+
+/// A line for each rule, each context and each pattern.
+fn lines_of(alloc: Global, rules: &Rules) -> Result<Vec<String>, AllocError> {
     let mut lines = Vec::new(alloc);
-    for rule in rules.iter() {
+    for rule in rules.rules.iter() {
         lines.push(rule_text(alloc, rule)?)?;
     }
-    for context in contexts.iter() {
+    for context in rules.contexts.iter() {
         lines.push(context_text(alloc, context)?)?;
     }
-    for pattern in patterns.iter() {
+    for pattern in rules.patterns.iter() {
         lines.push(String::from_str(alloc, glob_shown(pattern))?)?;
     }
     Ok(lines)
 }
 
-/// The first line that isn't the wanted one, or none where all are and there is no more.
-fn first_other(alloc: Global, text: &str, wanted: &[&str]) -> Result<Option<String>, Fail> {
-    let lines = lines_of(alloc, text)?;
+/// The first line that isn't the wanted one; `None` where all are and there is no more.
+fn first_other<'a>(lines: &'a [String], wanted: &[&str]) -> Option<&'a str> {
     if lines.len() != wanted.len() {
-        return Ok(Some(String::from_str(alloc, "another number of lines")?));
+        return Some("another number of lines");
     }
     for (line, wanted) in lines.iter().zip(wanted) {
         if line.as_str() != *wanted {
-            return Ok(Some(String::from_str(alloc, line.as_str())?));
+            return Some(line.as_str());
         }
     }
-    Ok(None)
+    None
 }
 
 #[test]
-fn reads_whole_sites(rt: HostRuntime) -> Result<(), Fail> {
+fn reads_whole_files(rt: HostRuntime) -> Result<(), Fail> {
     let alloc = rt.alloc();
-    let cases: [(&str, &[&str]); 2] = [(BLOG, &BLOG_READ), (POSTS, &POSTS_READ)];
+    let cases: [(&str, &[&str]); 2] = [(BLOG, &BLOG_READ), (SHARED, &SHARED_READ)];
     for (text, wanted) in cases {
-        if let Some(other) = first_other(alloc, text, wanted)? {
-            let other = other.as_str();
-            assert!(rt; false, "read {other}");
-        }
+        let lines = lines_of(alloc, &read(alloc, text)?)?;
+        let other = first_other(&lines, wanted).unwrap_or("all");
+        assert!(rt; other == "all", "read {other}");
     }
     Ok(())
 }
