@@ -1,11 +1,13 @@
 pub mod Empties
+pub mod Endings
+pub mod Firsts
 pub mod KnownBy
 pub mod Leasts
 pub mod Orders
 pub mod Reports
-pub mod SampleSteps
 pub mod Searching
 pub mod Steps
 pub mod StillWaits
+pub mod Traces
 pub mod Trails
 pub mod Waits

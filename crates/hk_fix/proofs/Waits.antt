@@ -1,5 +1,5 @@
 -- What an item waits for in the fixpoint, and histories read from either end.
-use Rattle.std.proofs.Common.{◌≡◌, ◌↔◌, refl, sym, ap, ◌∙◌, subst, ℕ, ◌<◌, Bool, true, false, ◌||◌, inl, inr, List, [], ◌∷◌, ◌++◌, length, reverse, Option, Some, None, is_some, is_none, nat_eq, All, filter, arith, eq-eqb}
+use Rattle.std.proofs.Common.{◌≡◌, ◌↔◌, refl, sym, ap, ◌∙◌, subst, ℕ, ◌<◌, Bool, true, false, not, ◌||◌, inl, inr, List, [], ◌∷◌, ◌++◌, length, reverse, Option, Some, None, is_some, is_none, nat_eq, All, filter, arith, eq-eqb}
 use Rattle.std.specs.List.{AllByRecursion}
 use Rattle.std.proofs.lemmas.List.{reverse-append, get_or_past}
 use Rattle.std.proofs.Math.Bool.{or_comm, or_assoc}
@@ -14,7 +14,7 @@ use Rattle.hk_fix.specs.Pages.{Pages, lacking}
 use Rattle.hk_fix.specs.Task.{Mark, End, done, fault, waits, Run}
 use Rattle.hk_fix.specs.Run.{asks_of, finished_page, page_of, lacked, is_wait, IsRun}
 use Rattle.hk_fix.specs.Facts.{whole_log}
-use Rattle.hk_fix.specs.Fix.{Seeds, IsSeeds, seeded, Ending, finished, faulted, waiting, is_finished, ends_with, ending_of, fix, status, same_event, stands, HasEnded, Blocks, LawfulNewest, after, seeds_of}
+use Rattle.hk_fix.specs.Fix.{Seeds, IsSeeds, seeded, Ending, finished, faulted, waiting, is_finished, is_over, ends_with, ending_of, fix, status, same_event, stands, HasEnded, Blocks, LawfulNewest, after, seeds_of}
 use Rattle.hk_fix.proofs.Orders.{clash, decide, the_some, none-of, page-snapshot, page-final, asked-known, closed, known-upward, settled, sound}
 
 -- histories from either end
@@ -71,6 +71,15 @@ done-of log (done x) w = (x, refl)
 done-of log (fault f) w = cc
 done-of log (waits ps) w = cc
 
+over-or-waits : (log : List Mark) (e : End Page) → is_over (ends_with log e) ≡ not (is_wait e)
+over-or-waits log (done x) = refl
+over-or-waits log (fault f) = refl
+over-or-waits log (waits ps) = refl
+
+not-true : (b : Bool) → not b ≡ true → b ≡ false
+not-true true e = cc
+not-true false e = refl
+
 module _ (lay : Shape) (run : ℕ → Pages → Run Page) (seeds : Seeds) (shape : IsShape lay) (laws : IsRun lay run) (sown : IsSeeds lay seeds) where
   -- a run that has asked for known pairs alone doesn't wait
   known-ends : (i : ℕ) (k : Pages) → i < lay.items → All (λ p. is_some (k p) ≡ true) (asks_of (run i k).log) → is_wait (run i k).end ≡ false
@@ -81,6 +90,14 @@ module _ (lay : Shape) (run : ℕ → Pages → Run Page) (seeds : Seeds) (shape
 
   pub ends-iff : (i : ℕ) → i < lay.items → (is_wait (run i (fix lay run seeds)).end ≡ false) ↔ All (λ p. is_some (fix lay run seeds p) ≡ true) (asks_of (run i (fix lay run seeds)).log)
   ends-iff i lt = (asked-known lay run seeds shape laws sown i (fix lay run seeds) lt, known-ends i (fix lay run seeds) lt)
+
+  -- and so an item without seeds is done or fails exactly where it asked for known pairs alone
+  pub over-iff : (i : ℕ) → i < lay.items → seeded seeds i ≡ false → (is_over (status lay run seeds i) ≡ true) ↔ All (λ p. is_some (fix lay run seeds p) ≡ true) (asks_of (run i (fix lay run seeds)).log)
+  unfolding status
+  over-iff i lt free =
+      let same : is_over (status lay run seeds i) ≡ not (is_wait (run i (fix lay run seeds)).end) =
+      ap (λ o. is_over (ending_of lay i (run i (fix lay run seeds)) o)) (none-of (seeds.facts i) free) ∙ over-or-waits (whole_log lay i (run i (fix lay run seeds))) (run i (fix lay run seeds)).end in
+      (λ e. (ends-iff i lt).0 (not-true (is_wait (run i (fix lay run seeds)).end) (sym same ∙ e)), λ h. same ∙ ap not ((ends-iff i lt).1 h))
 
   -- the pages of a finished item are known
   done-known : (p : ℕ) (x : Page) → p < pairs lay → seeded seeds (item_of lay p) ≡ false → (run (item_of lay p) (fix lay run seeds)).end ≡ done x → is_some (fix lay run seeds p) ≡ true
@@ -104,7 +121,7 @@ module _ (lay : Shape) (run : ℕ → Pages → Run Page) (seeds : Seeds) (shape
       ap is_some (known-upward lay run seeds shape laws sown (pairs lay) p v.0 v.1)
 
   -- the item of a pair that isn't known isn't finished
-  unknown-unfinished : (p : ℕ) → p < pairs lay → is_none (fix lay run seeds p) ≡ true → is_finished (status lay run seeds (item_of lay p)) ≡ false
+  pub unknown-unfinished : (p : ℕ) → p < pairs lay → is_none (fix lay run seeds p) ≡ true → is_finished (status lay run seeds (item_of lay p)) ≡ false
   unfolding status
   unknown-unfinished p lt none =
       elim (decide (is_finished (status lay run seeds (item_of lay p)))) [

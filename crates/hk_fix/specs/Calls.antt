@@ -20,10 +20,10 @@ module _ {Common : Type 0} (run : Common → ℕ → Pages → Run Page) where
   abbrev pub to_give : Meaning Common → List Save
   to_give m = saves_of (run_of m).log
 
-  -- the pairs that were answered to it, and those of the pages that its polls before the last one saved
+  -- the pairs that were answered to it, and those of the pages that it has given but for one that it has just saved
   abbrev pub Lists : Meaning Common → List ℕ → Type 0
   Lists m used =
-      m.is_spent ≡ false → (p : ℕ) → Contains used p ↔ ((is_some (m.told p) ≡ true) ⊎ Contains (map (λ s. s.pair) (take (m.given - cond m.just_saved 1 0) (to_give m))) p)
+      (p : ℕ) → Contains used p ↔ ((is_some (m.told p) ≡ true) ⊎ Contains (map (λ s. s.pair) (take (m.given - cond m.just_saved 1 0) (to_give m))) p)
 
 module _ {Common : Type 0} (shape : Common → Shape) (run : Common → ℕ → Pages → Run Page) where
   -- the next page on the way, while there is one; else as the run ends
@@ -37,7 +37,7 @@ module _ {Common : Type 0} (shape : Common → Shape) (run : Common → ℕ → 
       × (n ≡ record m { has_ended = true; just_saved = false })
   Goes m (Failed f) n = (length (to_give run m) ≤ m.given) × ((run_of run m).end ≡ fault f) × (n ≡ record m { has_ended = true; just_saved = false })
 
-  -- after want of memory nothing else comes
+  -- after want of memory nothing else comes; what it saved before may count as used
   abbrev pub Polls : Meaning Common → Result Polled NoMemory → Meaning Common → Type 0
   Polls m (Ok polled) n = (m.is_spent ≡ false) × Goes m polled n
-  Polls m (Err e) n = n ≡ record m { just_saved = false; is_spent = true }
+  Polls m (Err e) n = (n.just_saved ≡ true → m.just_saved ≡ true) × (n ≡ record m { just_saved = n.just_saved; is_spent = true })

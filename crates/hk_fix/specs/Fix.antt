@@ -45,6 +45,12 @@ is_finished (finished facts) = true
 is_finished (faulted e) = false
 is_finished (waiting ps) = false
 
+-- it is done or has failed
+abbrev pub is_over : Ending → Bool
+is_over (finished facts) = true
+is_over (faulted e) = true
+is_over (waiting ps) = false
+
 abbrev pub ends_with : List Mark → End Page → Ending
 ends_with log (done x) = finished (facts_of log)
 ends_with log (fault e) = faulted e

@@ -1,6 +1,9 @@
 pub mod Calls
 pub mod ChainLaws
 pub mod Chains
+pub mod Deed
+pub mod DeedLaws
+pub mod Deeds
 pub mod Facts
 pub mod Fix
 pub mod Meaning
@@ -9,9 +12,8 @@ pub mod Pages
 pub mod Report
 pub mod Results
 pub mod Run
-pub mod Sample
-pub mod SampleLaws
 pub mod Site
+pub mod Table
 pub mod Task
 pub mod TaskLaws
 pub mod Walks

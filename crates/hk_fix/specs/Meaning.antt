@@ -14,7 +14,7 @@ pub record Meaning (Common : Type 0) : Type 0 where
   pub awaits : List ℕ
   -- a poll answered the finished page or a fault
   pub has_ended : Bool
-  -- the last poll answered a page on the way
+  -- the last answer of a poll was a page on the way, which doesn't count as used yet
   pub just_saved : Bool
   -- a poll answered want of memory
   pub is_spent : Bool

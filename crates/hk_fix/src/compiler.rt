@@ -13,10 +13,11 @@ use hk_base::NoMemory;
 use hk_chain::{ItemNo, PageRef, PairNo};
 use std::alloc::Global;
 
-/// A compiler that can be suspended: it goes on by polls, and stops where it asks for pages.
-pub trait Compiler: Send + Drop {
+/// A compiler that can be suspended: it goes on by polls, and stops where it asks for pages. Whether threads may pass one on
+/// is asked where threads start.
+pub trait Compiler: Drop {
     /// What all compilers of a family have in common.
-    type Common: Send + Drop;
+    type Common: Drop;
 
     /// What holds of every value that a family has in common.
     ghost valid: { Self.Common → Type 0 };
@@ -56,8 +57,8 @@ pub trait Compiler: Send + Drop {
     fn into_open(self) -> Vec<PairNo>
         ensures { result.items ≡ (meaning self).awaits };
 
-    /// The pairs that were answered to it, and those that its polls before the last one saved. Takes no memory.
-    /// Constant.
+    /// The pairs that were answered to it, and those that its polls saved, but for one that it has just saved. So of a
+    /// compiler that wanted memory, too. Takes no memory. Constant.
     fn used(&self) -> &[PairNo]
         ensures { Lists run (meaning self.now) result.now };
 
@@ -69,7 +70,7 @@ pub trait Compiler: Send + Drop {
 }
 
 /// What makes compilers of one family.
-pub trait Maker: Sync {
+pub trait Maker {
     type M: Compiler;
 
     /// What its compilers have in common.

@@ -1,12 +1,11 @@
 -- Open pairs answered one after another.
-use Rattle.std.proofs.Common.{◌≡◌, ◌≢◌, refl, sym, ap, ◌∙◌, subst, ℕ, zero, suc, ◌+◌, ◌<◌, ◌≤◌, Bool, true, false, cond, not, ◌||◌, inl, inr, List, [], ◌∷◌, length, filter, Option, Some, None, is_some, is_none, nat_eq, get_or, arith, eqb-true, eq-eqb, Contains}
+use Rattle.std.proofs.Common.{◌≡◌, refl, sym, ap, ◌∙◌, ℕ, zero, suc, ◌<◌, ◌≤◌, Bool, true, false, cond, not, ◌||◌, inl, inr, List, [], ◌∷◌, length, filter, Option, Some, None, is_some, is_none, nat_eq, get_or, arith, eqb-true, eq-eqb}
 use Rattle.hk_chain.specs.declared.page.Page.{Page}
 use Rattle.hk_chain.specs.Kept.{at_place}
-use Rattle.hk_fix.specs.Pages.{Pages, lacking, tell}
+use Rattle.hk_fix.specs.Pages.{Pages, lacking}
 use Rattle.hk_fix.specs.Facts.{is_in}
 use Rattle.hk_fix.specs.Meaning.{Meaning, told_page}
-use Rattle.hk_fix.proofs.Orders.{clash, decide, filter-none}
-use Rattle.hk_fix.proofs.Steps.{contains-in, in-contains}
+use Rattle.hk_fix.proofs.Orders.{clash, decide}
 use Rattle.hk_sched.specs.Standings.{told_with, all_told, SomeTold}
 
 eqb-flip : (m n : ℕ) → nat_eq m n ≡ nat_eq n m

@@ -1,12 +1,12 @@
 -- Items on stacks: what a push and a pop leave linked.
-use Rattle.std.proofs.Common.{◌≡◌, ◌≢◌, refl, sym, ap, ◌∙◌, subst, ℕ, zero, suc, ◌+◌, ◌<◌, ◌≤◌, Bool, true, false, cond, ◌||◌, List, [], ◌∷◌, length, Option, Some, None, nat_eq, nat_lt, arith, eqb-true, eq-eqb, ne_eqb, ltb-true, ltb-false, slice_set, get_or, replicate, ◌-◌, get_or-set_same, get_or-set_other, length-set, inl, inr}
+use Rattle.std.proofs.Common.{◌≡◌, refl, sym, ap, ◌∙◌, subst, ℕ, zero, suc, ◌+◌, ◌<◌, ◌≤◌, true, false, cond, ◌||◌, List, [], ◌∷◌, length, Option, Some, None, nat_eq, nat_lt, arith, eqb-true, eq-eqb, ltb-true, ltb-false, slice_set, get_or, replicate, ◌-◌, get_or-set_same, get_or-set_other, length-set, inl, inr}
 use Rattle.std.proofs.lemmas.List.{get_or_past, get_or_default, length-replicate}
 use Rattle.hk_chain.specs.Kept.{at_place}
 use Rattle.hk_fix.specs.Facts.{is_in}
 use Rattle.hk_fix.proofs.Orders.{clash, decide}
 use Rattle.hk_sched.specs.declared.stacks.Stack.{Stack}
 use Rattle.hk_sched.specs.declared.stacks.Stack.TheVariants.{Fresh, Woken, Waiting}
-use Rattle.hk_sched.specs.Stacks.{stack_index, HasStack, is_on, IsChain, IsOnce, IsStack, AreStacks}
+use Rattle.hk_sched.specs.Stacks.{stack_index, HasStack, is_on, IsChain, IsStack, AreStacks}
 
 pub place-set : {A : Type 0} (xs : List (Option A)) (i : ℕ) (v : Option A) (j : ℕ) → i < length xs → at_place (slice_set xs i v) j ≡ cond (nat_eq j i) v (at_place xs j)
 place-set xs i v j lt =

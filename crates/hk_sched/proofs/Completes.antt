@@ -1,30 +1,32 @@
 -- A lawful board's turns, and where nothing stands ready and nothing is out, its history is complete.
-use Rattle.std.proofs.Common.{◌≡◌, ◌≢◌, refl, sym, ap, ◌∙◌, subst, ℕ, zero, suc, ◌+◌, ◌-◌, ◌<◌, ◌≤◌, Bool, true, false, cond, not, ◌||◌, ◌⊎◌, inl, inr, List, [], ◌∷◌, ◌++◌, length, map, take, filter, reverse, Option, Some, None, is_some, is_none, slice_get, slice_set, slice_index_or, nat_eq, arith, eqb-true, eq-eqb, get_or-set_same, Contains}
+use Rattle.std.proofs.Common.{◌≡◌, refl, sym, ap, ◌∙◌, subst, ℕ, zero, suc, ◌<◌, true, false, cond, not, inl, inr, List, [], ◌∷◌, length, map, reverse, Option, Some, None, is_some, is_none, slice_get, slice_set, slice_index_or, arith, eq-eqb, get_or-set_same}
 use Rattle.std.proofs.lemmas.List.{length-map}
 use Rattle.std.proofs.Math.ListN.{get_or-map}
 use Rattle.hk_chain.specs.declared.page.Page.{Page}
 use Rattle.hk_chain.specs.Kept.{at_place}
-use Rattle.hk_chain.specs.Layout.{Shape, pairs, item_of, final_of}
+use Rattle.hk_chain.specs.Layout.{Shape, item_of}
 use Rattle.hk_fix.specs.declared.event.Event.{Event}
 use Rattle.hk_fix.specs.declared.event.Event.TheVariants.{Begin, Saved, Done, Failed}
-use Rattle.hk_fix.specs.Calls.{run_of, to_give}
+use Rattle.hk_fix.specs.Calls.{to_give}
 use Rattle.hk_fix.specs.Facts.{is_in, whole_log}
-use Rattle.hk_fix.specs.Fix.{seeded, fix, status, after, stands, ended, is_done, is_fault, MayFollow, CompleteNewest, Ending, waiting, ends_with, ending_of}
+use Rattle.hk_fix.specs.Fix.{seeded, fix, status, after, stands, ended, is_done, is_fault, MayFollow, CompleteNewest, finished, waiting, is_finished, ends_with, ending_of}
 use Rattle.hk_fix.specs.Meaning.{Meaning, fresh}
 use Rattle.hk_fix.specs.Pages.{Pages, Extends, lacking}
-use Rattle.hk_fix.specs.Run.{Save, saves_of, snapshot, is_wait}
-use Rattle.hk_fix.specs.Task.{Mark, End, done, fault, waits, Run}
-use Rattle.hk_fix.proofs.Orders.{clash, decide, the_some, none-of, begun-free, pages-are}
-use Rattle.hk_fix.proofs.Steps.{contains-in, in-contains}
+use Rattle.hk_fix.specs.Run.{Save, saves_of, snapshot}
+use Rattle.hk_fix.specs.Task.{Mark, End, waits, Run}
+use Rattle.hk_fix.proofs.Orders.{clash, none-of, begun-free, pages-are}
+use Rattle.hk_fix.proofs.Steps.{in-contains}
+use Rattle.hk_fix.proofs.Endings.{end-at, ends-report}
 use Rattle.hk_fix.proofs.StillWaits.{waits-on}
+use Rattle.hk_fix.proofs.Traces.{status-facts, status-pages}
 use Rattle.hk_sched.specs.declared.turn.Turn.{Turn}
 use Rattle.hk_sched.specs.declared.turn.Turn.TheVariants as turn
-use Rattle.hk_sched.specs.Standings.{Standing, unbegun, again, out, held, over, nowhere, standing_at, is_out, is_empty, is_ready, ending_at, told_with, all_told, SomeTold}
+use Rattle.hk_sched.specs.Standings.{Standing, unbegun, again, out, held, over, nowhere, standing_at, is_out, is_empty, is_ready, ending_at, all_told, SomeTold}
 use Rattle.hk_sched.specs.Board.{BoardView, place_at, with_place, after_begin, after_put_back, HandsOut, ToldOne, NoneReady, results_of, IsBacked}
 use Rattle.hk_sched.specs.Lawful.{Key, sown, used_saves, IsKey, IsAsking, IsMachine, IsGoing, IsHeld, IsTurn, MayStand, IsLawful, IsRunOf, InHand}
 use Rattle.hk_sched.specs.Turns.{FirstOut}
 use Rattle.hk_sched.proofs.Answering.{none-lacking, filter-empty, filter-in}
-use Rattle.hk_sched.proofs.Rosters.{is-out, out-below}
+use Rattle.hk_sched.proofs.Rosters.{is-out}
 use Rattle.hk_sched.proofs.Taking.{lacks-filter}
 use Rattle.hk_sched.proofs.Keeps.{lawful-begin, lawful-place, going-out, stands-of, now-is, ended-begun}
 use Rattle.hk_sched.proofs.Saves.{get-length, find-save, first_pairs, first-in}
@@ -36,6 +38,9 @@ pub get-is : {A : Type 0} (xs : List A) (i : ℕ) (d : A) → i < length xs → 
 get-is [] i d lt = absurd (omega arith)
 get-is (x ∷ xs) zero d lt = refl
 get-is (x ∷ xs) (suc i) d lt = get-is xs i d (omega arith)
+
+the-same : {A : Type 0} (x y : A) → Some x ≡ Some y → x ≡ y
+the-same x y e = cc
 
 -- the first of some pairs
 first-of : (ps : List ℕ) → is_empty ps ≡ false → (p : ℕ) × (is_in ps p ≡ true)
@@ -129,11 +134,11 @@ module _ {X C : Type 0} (meaning : X → Meaning C) (shape : C → Shape) (run :
     hands-lawful (turn.Woken y) n h =
         let v = some-lawful h.0 h.1 (meaning y) h.2 h.3 h.4 ((meaning h.1).awaits, λ p e. e, h.5) in (
           rw h.6 (turn-woken h.0 h.1 h.2 h.3),
-          (
-            v.0,
-            v.2,
-            ap (λ (m : Meaning C). m.awaits) h.5 ∙ filter-empty (λ q. not (is_in (meaning h.1).awaits q)) (meaning h.1).awaits (λ q e. ap not e),
-          ),
+          record {
+            machine = v.0;
+            going = v.2;
+            closed = ap (λ (m : Meaning C). m.awaits) h.5 ∙ filter-empty (λ q. not (is_in (meaning h.1).awaits q)) (meaning h.1).awaits (λ q e. ap not e);
+          },
         )
 
     pub put-lawful : (t : Turn X) → IsTurn run meaning key t → IsLawful run meaning key (after_put_back meaning b t)
@@ -144,13 +149,13 @@ module _ {X C : Type 0} (meaning : X → Meaning C) (shape : C → Shape) (run :
         ] refl
     put-lawful (turn.Woken x) w =
         elim (is_out (place_at b (meaning x).item)) as (λ v. is_out (place_at b (meaning x).item) ≡ v → IsLawful run meaning key (cond v (with_place b (meaning x).item (held x)) b)) [
-          | true ↦ λ e. lawful-place meaning shape run key is b (meaning x).item (held x) l w.0.in_range (
-            going-out meaning shape run key is b (meaning x).item l w.0.in_range (is-out (place_at b (meaning x).item) e),
+          | true ↦ λ e. lawful-place meaning shape run key is b (meaning x).item (held x) l w.machine.in_range (
+            going-out meaning shape run key is b (meaning x).item l w.machine.in_range (is-out (place_at b (meaning x).item) e),
             record {
               item = refl;
-              machine = w.0;
-              going = w.1;
-              backed = λ more. absurd (omega (arith, more, ap (λ (ps : List ℕ). length (lacking (K (reverse b.history)) ps)) w.2));
+              machine = w.machine;
+              going = w.going;
+              backed = λ more. absurd (omega (arith, more, ap (λ (ps : List ℕ). length (lacking (K (reverse b.history)) ps)) w.closed));
             },
           )
           | false ↦ λ e. l
@@ -280,14 +285,25 @@ module _ {X C : Type 0} (meaning : X → Meaning C) (shape : C → Shape) (run :
           sym (status-parked i (lacking (at_place b.known) (meaning x).awaits) (free-of i w.0) (parked-end i lt x w.0 w.1 some))
       ending-is i (over e) lt at w = w.1
 
+      ends-are : (i : ℕ) → i < key.lay.items → slice_get (results_of meaning b).outcomes i ≡ Some (status key.lay R (sown key) i)
+      ends-are i lt =
+          get-is (map (ending_at meaning (at_place b.known)) b.places) i (ending_at meaning (at_place b.known) nowhere) (omega (arith, lt, l.items, length-map b.places (ending_at meaning (at_place b.known))))
+          ∙ ap Some (get_or-map (ending_at meaning (at_place b.known)) b.places i nowhere ∙ ending-is i (place_at b i) lt refl (l.places i lt))
+
       pub is-run_of : IsRunOf key.lay R (sown key) (results_of meaning b)
       is-run_of =
+          let many : length (results_of meaning b).outcomes ≡ key.lay.items = length-map b.places (ending_at meaning (at_place b.known)) ∙ l.items in
           record {
             complete = is-complete;
             page_count = l.pages;
             pages = known-fix;
-            outcome_count = length-map b.places (ending_at meaning (at_place b.known)) ∙ l.items;
-            outcomes = λ i lt.
-                get-is (map (ending_at meaning (at_place b.known)) b.places) i (ending_at meaning (at_place b.known) nowhere) (omega (arith, lt, l.items, length-map b.places (ending_at meaning (at_place b.known))))
-                ∙ ap Some (get_or-map (ending_at meaning (at_place b.known)) b.places i nowhere ∙ ending-is i (place_at b i) lt refl (l.places i lt));
+            outcome_count = many;
+            outcomes = ends-are;
+            reports = ends-report key.lay R (sown key) is.setting (results_of meaning b).outcomes many ends-are;
+            pages_of_done = λ p below e.
+                ap (λ (k : Pages). is_some (k p)) known-fix
+                ∙ status-pages key.lay R (sown key) is.setting p below (ap is_finished (sym (end-at key.lay R (sown key) (results_of meaning b).outcomes ends-are (item_of key.lay p) (is.setting.shape.in_items p below))) ∙ e);
+            facts_of_done = λ facts i f lt e.
+                let same : Some (status key.lay R (sown key) i) ≡ Some (finished f) = sym (ends-are i lt) ∙ e in
+                status-facts key.lay R (sown key) is.setting facts i f lt (the-same (status key.lay R (sown key) i) (finished f) same);
           }

@@ -1,14 +1,13 @@
 -- A board has room for what may still come.
-use Rattle.std.proofs.Common.{◌≡◌, refl, sym, ap, ◌∙◌, ℕ, ◌+◌, ◌*◌, ◌<◌, ◌≤◌, Bool, true, false, cond, List, [], ◌∷◌, ◌++◌, length, map, Option, Some, None, is_some, arith, slice_set, length-set}
+use Rattle.std.proofs.Common.{◌≡◌, refl, ◌∙◌, ℕ, ◌+◌, ◌*◌, ◌<◌, ◌≤◌, false, List, [], ◌∷◌, ◌++◌, length, map, Option, Some, None, is_some, arith, slice_set, length-set}
 use Rattle.std.specs.List.{sum_by}
-use Rattle.std.proofs.lemmas.List.Sums.{sum_by-set, sum_by-le, sum_by-cons, get_or-le-sum_by}
+use Rattle.std.proofs.lemmas.List.Sums.{sum_by-set, sum_by-cons, get_or-le-sum_by}
 use Rattle.hk_chain.specs.declared.page.Page.{Page}
 use Rattle.hk_chain.specs.Facts.{FactsView}
 use Rattle.hk_chain.specs.Kept.{KeptView, at_place}
-use Rattle.hk_chain.specs.Layout.{Shape, pairs}
+use Rattle.hk_chain.specs.Layout.{Shape}
 use Rattle.hk_fix.specs.declared.event.Event.{Event}
-use Rattle.hk_fix.specs.Fix.{Ending}
-use Rattle.hk_sched.specs.Standings.{RosterView, Standing, unbegun, again, out, held, over, nowhere, standing_at, first_standing}
+use Rattle.hk_sched.specs.Standings.{RosterView, Standing, unbegun, nowhere, standing_at, first_standing}
 use Rattle.hk_sched.specs.Board.{to_come, to_save, events_left}
 use Rattle.hk_sched.specs.Boards.{IsBoard}
 use Rattle.hk_sched.proofs.Listing.{length-more}

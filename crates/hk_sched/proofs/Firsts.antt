@@ -1,5 +1,5 @@
 -- A roster at first.
-use Rattle.std.proofs.Common.{◌≡◌, refl, sym, ap, ◌∙◌, subst, ℕ, zero, suc, ◌+◌, ◌-◌, ◌<◌, ◌≤◌, Bool, true, false, cond, inl, inr, List, [], ◌∷◌, length, map, replicate, Option, Some, None, nat_eq, arith, eqb-true, eq-eqb, ne_eqb, nat_le, leb-true, leb-false, slice_index, slice_set, length-set}
+use Rattle.std.proofs.Common.{◌≡◌, refl, sym, ap, ◌∙◌, subst, ℕ, zero, suc, ◌-◌, ◌<◌, ◌≤◌, false, inl, inr, List, [], ◌∷◌, length, map, replicate, Option, Some, None, nat_eq, arith, eqb-true, eq-eqb, ne_eqb, nat_le, leb-true, leb-false, slice_index, slice_set, length-set}
 use Rattle.std.proofs.lemmas.List.{length-map, ext_get_or, length-replicate, get_or_past, set-get_or}
 use Rattle.std.proofs.Math.ListN.{get_or-map}
 use Rattle.hk_chain.specs.declared.page.Page.{Page}
@@ -9,13 +9,12 @@ use Rattle.hk_fix.specs.Pages.{Pages}
 use Rattle.hk_fix.specs.Meaning.{Meaning}
 use Rattle.hk_fix.proofs.Orders.{clash, decide}
 use Rattle.hk_sched.specs.declared.stacks.Stack.{Stack}
-use Rattle.hk_sched.specs.declared.stacks.Stack.TheVariants.{Fresh, Woken, Waiting}
 use Rattle.hk_sched.specs.declared.place.Place.{Place}
 use Rattle.hk_sched.specs.declared.place.Place.TheVariants.{Unbegun, Again, Out, Held, Over}
 use Rattle.hk_sched.specs.Places.{standing}
 use Rattle.hk_sched.specs.Stacks.{StacksView}
-use Rattle.hk_sched.specs.Standings.{Standing, unbegun, again, out, held, over, nowhere, standing_at, stack_for, first_standing}
-use Rattle.hk_sched.specs.Rosters.{IsWithin, IsCursor, IsRoster, first_stack}
+use Rattle.hk_sched.specs.Standings.{Standing, nowhere, standing_at, stack_for, first_standing}
+use Rattle.hk_sched.specs.Rosters.{IsCursor, IsRoster, first_stack}
 use Rattle.hk_sched.proofs.Chains.{place-set, unset}
 
 module _ {X C : Type 0} (meaning : X → Meaning C) where

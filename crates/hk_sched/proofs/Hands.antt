@@ -1,29 +1,24 @@
 -- A compiler that was handed out: what its polls allow.
-use Rattle.std.proofs.Common.{◌≡◌, ◌≢◌, refl, sym, ap, ◌∙◌, subst, ℕ, zero, suc, ◌+◌, ◌-◌, ◌<◌, ◌≤◌, Bool, true, false, cond, not, ◌||◌, ◌⊎◌, inl, inr, List, [], ◌∷◌, ◌++◌, length, map, take, filter, reverse, Option, Some, None, is_some, is_none, slice_get, slice_set, nat_eq, arith, eqb-true, eq-eqb, length-append, All, Contains}
+use Rattle.std.proofs.Common.{◌≡◌, refl, sym, ap, ◌∙◌, subst, ℕ, ◌<◌, ◌≤◌, Bool, true, false, cond, not, ◌||◌, inl, inr, List, [], ◌∷◌, ◌++◌, length, filter, reverse, Option, Some, None, is_some, is_none, nat_eq, arith, eq-eqb, length-append, All, Contains}
 use Rattle.hk_chain.specs.declared.page.Page.{Page}
-use Rattle.hk_chain.specs.declared.fault.Fault.{Fault}
-use Rattle.hk_chain.specs.Facts.{FactsView}
 use Rattle.hk_chain.specs.Kept.{at_place}
-use Rattle.hk_chain.specs.Layout.{Shape, pairs, item_of, final_of}
-use Rattle.hk_fix.specs.declared.event.Event.{Event}
+use Rattle.hk_chain.specs.Layout.{Shape, pairs}
 use Rattle.hk_fix.specs.Calls.{run_of, to_give}
-use Rattle.hk_fix.specs.Facts.{is_in, facts_of, whole_log}
-use Rattle.hk_fix.specs.Fix.{seeded, fix, after, seeds_of}
-use Rattle.hk_fix.specs.Meaning.{Meaning, fresh}
+use Rattle.hk_fix.specs.Facts.{is_in}
+use Rattle.hk_fix.specs.Fix.{fix}
+use Rattle.hk_fix.specs.Meaning.{Meaning}
 use Rattle.hk_fix.specs.Pages.{Pages, Extends, Begins, lacking}
-use Rattle.hk_fix.specs.Run.{Save, asks_of, saves_of, page_in, snapshot, lacked, is_wait, IsRun}
-use Rattle.hk_fix.specs.Task.{Mark, End, done, fault, waits, Run}
-use Rattle.hk_fix.proofs.Orders.{clash, decide, the_some, is_some-of, none-of, saves_of-append, saves-grow, settled, sound}
-use Rattle.hk_fix.proofs.Steps.{contains-in, in-contains}
+use Rattle.hk_fix.specs.Run.{Save, asks_of, saves_of, lacked}
+use Rattle.hk_fix.specs.Task.{Mark, waits, Run}
+use Rattle.hk_fix.proofs.Orders.{clash, decide, the_some, saves_of-append, sound}
+use Rattle.hk_fix.proofs.Steps.{in-contains}
 use Rattle.hk_fix.proofs.StillWaits.{waits-on}
-use Rattle.hk_sched.specs.Standings.{Standing, unbegun, again, out, held, over, nowhere, standing_at, told_with, all_told}
-use Rattle.hk_sched.specs.Board.{BoardView, place_at, with_place, after_begin, after_save, IsBacked}
-use Rattle.hk_sched.specs.Lawful.{Key, sown, used_saves, IsKey, IsAsking, IsMachine, IsGoing, IsHeld, MayStand, IsLawful, MaySave, MayEnd, MayFinish, MayFail, MayAsk, InHand}
-use Rattle.hk_sched.proofs.Answering.{filter-in, filter-has, filter-empty, none-lacking, known-below}
-use Rattle.hk_sched.proofs.Chains.{place-set}
-use Rattle.hk_sched.proofs.Keeps.{backed-more}
+use Rattle.hk_sched.specs.Standings.{told_with}
+use Rattle.hk_sched.specs.Board.{BoardView, IsBacked}
+use Rattle.hk_sched.specs.Lawful.{Key, sown, IsKey, IsAsking, IsMachine, IsLawful}
+use Rattle.hk_sched.proofs.Answering.{filter-in}
 use Rattle.hk_sched.proofs.Lacks.{none-is}
-use Rattle.hk_sched.proofs.Saves.{get-length, get-there, get-append, page-at, find-before, find-save, first_pairs, first-in, first-more, first-same}
+use Rattle.hk_sched.proofs.Saves.{first_pairs, first-same}
 use Rattle.hk_sched.proofs.Taking.{all-by_in, all-in}
 
 filter-alike : (f g : ℕ → Bool) (xs : List ℕ) → ((q : ℕ) → is_in xs q ≡ true → f q ≡ g q) → filter f xs ≡ filter g xs

@@ -1,5 +1,5 @@
 -- Each event keeps a board lawful.
-use Rattle.std.proofs.Common.{◌≡◌, ◌≢◌, refl, sym, ap, ◌∙◌, subst, ℕ, zero, suc, ◌+◌, ◌-◌, ◌<◌, ◌≤◌, Bool, true, false, cond, not, ◌||◌, ◌⊎◌, inl, inr, List, [], ◌∷◌, ◌++◌, length, map, reverse, Option, Some, None, is_some, is_none, slice_get, slice_set, slice_index_or, nat_eq, nat_lt, arith, eqb-true, eq-eqb, ne_eqb, length-set, Contains}
+use Rattle.std.proofs.Common.{◌≡◌, ◌≢◌, refl, sym, ap, ◌∙◌, subst, ℕ, ◌<◌, Bool, true, false, cond, not, ◌||◌, inl, inr, List, [], ◌∷◌, ◌++◌, length, reverse, Option, Some, None, is_some, is_none, slice_set, nat_eq, arith, eqb-true, eq-eqb, ne_eqb, length-set}
 use Rattle.std.proofs.lemmas.List.{reverse-append}
 use Rattle.hk_chain.specs.declared.page.Page.{Page}
 use Rattle.hk_chain.specs.declared.fault.Fault.{Fault}
@@ -9,17 +9,17 @@ use Rattle.hk_chain.specs.Layout.{Shape, pairs, item_of, final_of}
 use Rattle.hk_fix.specs.declared.event.Event.{Event}
 use Rattle.hk_fix.specs.declared.event.Event.TheVariants.{Begin, Saved, Done, Failed}
 use Rattle.hk_fix.specs.Facts.{facts_of, whole_log}
-use Rattle.hk_fix.specs.Fix.{Seeds, seeded, fix, status, ends_with, finished, faulted, waiting, or_else, with_new, after, stands, ended, same_event, is_done, is_fault, MayFollow, MayBegin, LawfulNewest, Ending, ending_of}
+use Rattle.hk_fix.specs.Fix.{seeded, fix, status, ends_with, finished, faulted, or_else, with_new, after, stands, ended, same_event, is_done, is_fault, MayFollow, LawfulNewest, ending_of}
 use Rattle.hk_fix.specs.Meaning.{Meaning}
-use Rattle.hk_fix.specs.Pages.{Pages, Extends, lacking}
-use Rattle.hk_fix.specs.Run.{Save, snapshot, finished_page, is_wait}
-use Rattle.hk_fix.specs.Task.{End, done, fault, waits, Run}
-use Rattle.hk_fix.proofs.Orders.{clash, decide, or_cases, or_right, neither, the_some, is_some-of, none-of, with_new_has, after-grows, still-some, begun-free, stood-known, sound, done-no_wait, fault-no_wait}
+use Rattle.hk_fix.specs.Pages.{Pages, lacking}
+use Rattle.hk_fix.specs.Run.{snapshot, finished_page, is_wait}
+use Rattle.hk_fix.specs.Task.{End, done, fault, Run}
+use Rattle.hk_fix.proofs.Orders.{clash, decide, or_right, the_some, none-of, still-some, begun-free, stood-known}
 use Rattle.hk_fix.proofs.KnownBy.{snapshot-by_event, final-by_event}
 use Rattle.hk_fix.proofs.Waits.{ends-early}
-use Rattle.hk_sched.specs.Standings.{Standing, unbegun, again, out, held, over, nowhere, standing_at, is_out}
+use Rattle.hk_sched.specs.Standings.{Standing, unbegun, again, out, held, over, standing_at}
 use Rattle.hk_sched.specs.Board.{BoardView, place_at, with_place, after_begin, after_save, after_done, after_fail, IsBacked}
-use Rattle.hk_sched.specs.Lawful.{Key, sown, used_saves, IsKey, IsAsking, IsMachine, IsGoing, IsHeld, MayStand, IsLawful, MaySave, MayEnd, MayFinish, MayFail}
+use Rattle.hk_sched.specs.Lawful.{Key, sown, used_saves, IsKey, IsGoing, IsHeld, MayStand, IsLawful, MaySave, MayEnd, MayFinish, MayFail}
 use Rattle.hk_sched.proofs.Chains.{place-set}
 use Rattle.hk_sched.proofs.Lacks.{lacks-fewer, none-is}
 use Rattle.hk_sched.proofs.Rosters.{standing-set}

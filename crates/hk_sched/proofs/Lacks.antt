@@ -1,6 +1,5 @@
 -- The pairs that aren't known, and the first of them.
-use Rattle.std.proofs.Common.{◌≡◌, ◌≢◌, refl, sym, ap, ◌∙◌, subst, ℕ, zero, suc, ◌+◌, ◌<◌, ◌≤◌, Bool, true, false, cond, not, ◌||◌, ◌⊎◌, inl, inr, List, [], ◌∷◌, length, take, filter, Option, Some, None, is_some, is_none, nat_eq, arith, eqb-true, eq-eqb, ne_eqb, slice_index}
-use Rattle.hk_chain.specs.declared.page.Page.{Page}
+use Rattle.std.proofs.Common.{◌≡◌, refl, sym, ap, ◌∙◌, ℕ, zero, suc, ◌+◌, ◌<◌, true, false, cond, not, ◌⊎◌, inl, inr, List, [], ◌∷◌, length, take, Option, Some, None, is_some, is_none, nat_eq, arith, eqb-true, ne_eqb, slice_index}
 use Rattle.hk_fix.specs.Pages.{Pages, lacking}
 use Rattle.hk_fix.proofs.Orders.{clash, decide}
 use Rattle.hk_sched.specs.declared.stacks.Stack.{Stack}

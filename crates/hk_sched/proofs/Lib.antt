@@ -6,13 +6,14 @@ pub mod Fuels
 pub mod Hands
 pub mod Keeps
 pub mod Lacks
+pub mod Laws
 pub mod Listing
 pub mod Completes
 pub mod Events
 pub mod Firsts
+pub mod Playing
 pub mod Polls
 pub mod Rosters
 pub mod Saves
-pub mod Stays
 pub mod Taking
 pub mod Works

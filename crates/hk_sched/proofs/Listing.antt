@@ -1,5 +1,5 @@
 -- Lists that grow by one.
-use Rattle.std.proofs.Common.{◌≡◌, refl, sym, ap, ◌∙◌, ℕ, zero, suc, ◌+◌, ◌<◌, List, [], ◌∷◌, ◌++◌, length, map, arith, All, get_or}
+use Rattle.std.proofs.Common.{◌≡◌, refl, sym, ap, ◌∙◌, suc, ◌+◌, List, [], ◌∷◌, ◌++◌, length, map, arith, All}
 
 pub maps-more : {A B D E : Type 0} (f : A → B) (g : D → B) (h : E → D) (os : List A) (ys : List E) (o : A) (y : E) → map f os ≡ map g (map h ys) → f o ≡ g (h y) → map f (os ++ o ∷ []) ≡ map g (map h (ys ++ y ∷ []))
 maps-more f g h os ys o y e q = append f os o ∙ ap (λ l. l ++ f o ∷ []) e ∙ ap (λ b. map g (map h ys) ++ b ∷ []) q ∙ sym (ap (map g) (append h ys y) ∙ append g (map h ys) (h y))

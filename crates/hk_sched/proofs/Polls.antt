@@ -1,30 +1,27 @@
 -- What each answer of a poll does to a lawful board and the compiler in hand.
-use Rattle.std.proofs.Common.{◌≡◌, ◌≢◌, refl, sym, ap, ◌∙◌, subst, ℕ, zero, suc, ◌+◌, ◌-◌, ◌<◌, ◌≤◌, Bool, true, false, cond, not, ◌||◌, ◌⊎◌, inl, inr, List, [], ◌∷◌, ◌++◌, length, map, take, filter, reverse, Option, Some, None, is_some, is_none, slice_get, slice_set, nat_eq, arith, eqb-true, eq-eqb, ne_eqb, get_or-set_same, get_or-set_other, Contains}
+use Rattle.std.proofs.Common.{◌≡◌, ◌≢◌, refl, sym, ap, ◌∙◌, subst, ℕ, ◌+◌, ◌-◌, ◌<◌, ◌≤◌, true, false, cond, not, inl, inr, List, [], ◌∷◌, ◌++◌, length, Some, None, is_some, slice_get, slice_set, nat_eq, arith, eqb-true, eq-eqb, get_or-set_same, get_or-set_other}
 use Rattle.hk_chain.specs.declared.page.Page.{Page}
 use Rattle.hk_chain.specs.declared.fault.Fault.{Fault}
 use Rattle.hk_chain.specs.Facts.{FactsView}
 use Rattle.hk_chain.specs.Kept.{at_place}
 use Rattle.hk_chain.specs.Layout.{Shape, pairs, item_of, final_of}
-use Rattle.hk_fix.specs.declared.event.Event.{Event}
-use Rattle.hk_fix.specs.declared.event.Event.TheVariants.{Begin, Saved}
+use Rattle.hk_fix.specs.declared.event.Event.TheVariants.{Saved}
 use Rattle.hk_fix.specs.Calls.{run_of, to_give}
 use Rattle.hk_fix.specs.Facts.{is_in, facts_of, whole_log}
-use Rattle.hk_fix.specs.Fix.{seeded, fix, after, stands, ended}
+use Rattle.hk_fix.specs.Fix.{seeded}
 use Rattle.hk_fix.specs.Meaning.{Meaning, fresh}
 use Rattle.hk_fix.specs.Pages.{Pages, Extends, lacking}
-use Rattle.hk_fix.specs.Run.{Save, asks_of, saves_of, page_in, snapshot, lacked, is_wait}
-use Rattle.hk_fix.specs.Task.{Mark, End, done, fault, waits, Run}
-use Rattle.hk_fix.proofs.Orders.{clash, decide, the_some, is_some-of, none-of, saves-grow, settled}
+use Rattle.hk_fix.specs.Run.{Save, saves_of, snapshot, is_wait}
+use Rattle.hk_fix.specs.Task.{End, done, fault, waits, Run}
+use Rattle.hk_fix.proofs.Orders.{clash, decide, saves-grow, settled}
 use Rattle.hk_fix.proofs.Steps.{contains-in, in-contains}
-use Rattle.hk_sched.specs.Standings.{Standing, unbegun, again, out, held, over, nowhere, standing_at, told_with, all_told}
-use Rattle.hk_sched.specs.Board.{BoardView, place_at, with_place, after_begin, after_save, IsBacked}
-use Rattle.hk_sched.specs.Lawful.{Key, sown, used_saves, IsKey, IsAsking, IsMachine, IsGoing, IsHeld, MayStand, IsLawful, MaySave, MayEnd, MayFinish, MayFail, MayAsk, InHand}
-use Rattle.hk_sched.proofs.Answering.{filter-empty, none-lacking, known-below}
-use Rattle.hk_sched.proofs.Chains.{place-set}
-use Rattle.hk_sched.proofs.Rosters.{standing-set}
-use Rattle.hk_sched.proofs.Keeps.{backed-more, lawful-begin, lawful-place, going-out, lawful-save}
+use Rattle.hk_sched.specs.Standings.{Standing, out, held, standing_at, all_told}
+use Rattle.hk_sched.specs.Board.{BoardView, place_at, with_place, after_save, IsBacked}
+use Rattle.hk_sched.specs.Lawful.{Key, sown, used_saves, IsKey, IsAsking, IsMachine, IsLawful, MaySave, MayEnd, MayFinish, MayFail, MayAsk, InHand}
+use Rattle.hk_sched.proofs.Answering.{filter-empty, none-lacking}
+use Rattle.hk_sched.proofs.Keeps.{lawful-place, going-out}
 use Rattle.hk_sched.proofs.Saves.{get-length, get-there, get-append, page-at, find-before, find-save, first_pairs, first-in, first-more}
-use Rattle.hk_sched.proofs.Hands.{run-is, gives-are, gives-more, told-machine, told-backed, known-within, told-known, awaits-within}
+use Rattle.hk_sched.proofs.Hands.{run-is, gives-are, gives-more, told-machine, told-backed, known-within, told-known}
 
 -- a save makes more known
 pub save-grows : {X C : Type 0} (b : BoardView X C) (p : ℕ) (page : Page) (q : ℕ) → is_some (at_place b.known q) ≡ true → is_some (at_place (after_save b p page).known q) ≡ true

@@ -1,21 +1,21 @@
 -- A roster's parts stay fitted to one another.
-use Rattle.std.proofs.Common.{◌≡◌, ◌≢◌, refl, sym, ap, ◌∙◌, subst, ℕ, ◌+◌, ◌<◌, ◌≤◌, Bool, true, false, cond, not, ◌⊎◌, inl, inr, List, [], ◌∷◌, length, map, take, Option, Some, None, is_some, is_none, nat_eq, nat_lt, arith, eqb-true, eq-eqb, ne_eqb, ltb-true, ltb-false, slice_index, slice_index_or, slice_set, set, get_or, get_or-set_same, get_or-set_other, length-set, All}
+use Rattle.std.proofs.Common.{◌≡◌, refl, sym, ap, ◌∙◌, ℕ, ◌+◌, ◌<◌, true, false, cond, not, ◌⊎◌, inl, inr, List, length, map, take, Option, Some, None, is_some, is_none, nat_eq, nat_lt, arith, eqb-true, eq-eqb, ne_eqb, ltb-true, ltb-false, slice_index, slice_set, get_or, get_or-set_same, get_or-set_other, length-set}
 use Rattle.std.specs.List.{sum_by}
 use Rattle.std.proofs.lemmas.List.{map-set, length-map, ext_get_or, set-set, get_or_past, get_or-map as read-map}
 use Rattle.std.proofs.lemmas.List.Sums.{sum_by-set}
 use Rattle.std.proofs.Math.ListN.{get_or-map}
 use Rattle.hk_chain.specs.declared.page.Page.{Page}
 use Rattle.hk_chain.specs.Kept.{at_place}
-use Rattle.hk_fix.specs.Pages.{Pages, lacking}
+use Rattle.hk_fix.specs.Pages.{Pages}
 use Rattle.hk_fix.specs.Meaning.{Meaning}
 use Rattle.hk_fix.proofs.Orders.{clash, decide}
 use Rattle.hk_sched.specs.declared.stacks.Stack.{Stack}
-use Rattle.hk_sched.specs.declared.stacks.Stack.TheVariants.{Fresh, Woken, Waiting}
-use Rattle.hk_sched.specs.Stacks.{StacksView, HasStack, is_on}
-use Rattle.hk_sched.specs.Standings.{Standing, unbegun, again, out, held, over, nowhere, standing_at, is_out, stack_at, stack_for}
+use Rattle.hk_sched.specs.declared.stacks.Stack.TheVariants.{Waiting}
+use Rattle.hk_sched.specs.Stacks.{StacksView, is_on}
+use Rattle.hk_sched.specs.Standings.{Standing, unbegun, again, out, held, over, nowhere, standing_at, is_out, stack_for}
 use Rattle.hk_sched.specs.declared.place.Place.{Place}
 use Rattle.hk_sched.specs.Places.{standing}
-use Rattle.hk_sched.specs.Rosters.{IsWithin, IsCursor, IsRoster, IsWaking}
+use Rattle.hk_sched.specs.Rosters.{IsCursor, IsRoster, IsWaking}
 use Rattle.hk_sched.proofs.Chains.{place-set, on-itself}
 use Rattle.hk_sched.proofs.Lacks.{none-is, not-first, lacks-fewer, stack-moves}
 

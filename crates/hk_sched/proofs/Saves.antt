@@ -1,6 +1,5 @@
 -- Lists of saves in the order of their pairs.
-use Rattle.std.proofs.Common.{◌≡◌, ◌≢◌, refl, sym, ap, ◌∙◌, subst, ℕ, zero, suc, ◌+◌, ◌<◌, ◌≤◌, Bool, true, false, cond, ◌||◌, ◌⊎◌, inl, inr, List, [], ◌∷◌, ◌++◌, length, map, take, Option, Some, None, is_some, slice_get, nat_eq, nat_lt, arith, eqb-true, eq-eqb, ne_eqb, ltb-true, ltb-false}
-use Rattle.hk_chain.specs.declared.page.Page.{Page}
+use Rattle.std.proofs.Common.{◌≡◌, refl, sym, ap, ◌∙◌, subst, ℕ, zero, suc, ◌+◌, ◌<◌, ◌≤◌, Bool, true, false, ◌||◌, ◌⊎◌, inl, inr, List, [], ◌∷◌, ◌++◌, length, map, take, Some, None, is_some, slice_get, nat_eq, nat_lt, arith, eqb-true, eq-eqb, ne_eqb, ltb-true, ltb-false}
 use Rattle.hk_fix.specs.Run.{Save, page_in, AllAbove, Rising}
 use Rattle.hk_fix.specs.Facts.{is_in}
 use Rattle.hk_fix.proofs.Orders.{clash, decide}

@@ -1,25 +1,23 @@
 -- What stands ready is found on two stacks.
-use Rattle.std.proofs.Common.{◌≡◌, ◌≢◌, refl, sym, ap, ◌∙◌, subst, ℕ, ◌+◌, ◌<◌, ◌≤◌, Bool, true, false, cond, not, ◌⊎◌, inl, inr, List, [], ◌∷◌, length, map, filter, take, Option, Some, None, Ok, is_some, is_none, nat_eq, arith, eq-eqb, slice_index, slice_set, set, get_or, length-set, All, Contains}
+use Rattle.std.proofs.Common.{◌≡◌, refl, sym, ap, ◌∙◌, subst, ℕ, ◌<◌, Bool, true, false, cond, not, List, [], ◌∷◌, length, filter, take, Option, Some, None, Ok, is_none, arith, slice_index, slice_set, get_or, All, Contains}
 use Rattle.std.proofs.lemmas.List.{set-set, set-get_or, get_or_default}
 use Rattle.hk_chain.specs.declared.page.Page.{Page}
 use Rattle.hk_chain.specs.Kept.{at_place}
 use Rattle.hk_fix.specs.Pages.{Pages, lacking}
 use Rattle.hk_fix.specs.Facts.{is_in}
 use Rattle.hk_fix.specs.Meaning.{Meaning}
-use Rattle.hk_fix.proofs.Orders.{clash, decide}
 use Rattle.hk_fix.proofs.Steps.{contains-in, in-contains}
 use Rattle.hk_sched.specs.declared.stacks.Stack.{Stack}
 use Rattle.hk_sched.specs.declared.stacks.Stack.TheVariants.{Fresh, Woken, Waiting}
 use Rattle.hk_sched.specs.declared.turn.Ready.{Ready}
 use Rattle.hk_sched.specs.declared.turn.Ready.TheVariants as ready
 use Rattle.hk_sched.specs.Stacks.{StacksView, is_on}
-use Rattle.hk_sched.specs.Standings.{Standing, RosterView, unbegun, again, out, held, over, nowhere, standing_at, is_out, is_settled, is_empty, is_ready, stack_at, stack_for, told_with, all_told, SomeTold}
+use Rattle.hk_sched.specs.Standings.{Standing, unbegun, again, out, held, over, nowhere, standing_at, is_out, is_settled, is_empty, is_ready, stack_at, stack_for, SomeTold}
 use Rattle.hk_sched.specs.Rosters.{IsWithin, IsCursor, IsRoster}
-use Rattle.hk_sched.specs.Turns.{placed, NoneReady, IsTaken, Begins, Takes}
-use Rattle.hk_sched.proofs.Chains.{on-itself}
+use Rattle.hk_sched.specs.Turns.{Begins, Takes}
 use Rattle.hk_sched.proofs.Answering.{filter-in}
 use Rattle.hk_sched.proofs.Lacks.{lacks-at}
-use Rattle.hk_sched.proofs.Rosters.{stood-at, put-fits, many-stacks, standing-below}
+use Rattle.hk_sched.proofs.Rosters.{stood-at, put-fits, many-stacks}
 
 -- where no pair is lacking, none is among some of them
 pub lacks-filter : (k : Pages) (test : ℕ → Bool) (ps : List ℕ) → lacking k ps ≡ [] → lacking k (filter test ps) ≡ []

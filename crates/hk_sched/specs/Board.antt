@@ -1,5 +1,5 @@
 -- A board as plain data, and what its calls do.
-use Rattle.std.specs.Prelude.{◌≡◌, ℕ, ◌+◌, ◌-◌, ◌<◌, Bool, true, false, cond, ◌⊎◌, List, [], ◌∷◌, ◌++◌, length, map, Option, Some, None, is_some, slice_set, Result, Ok, Err, take, Contains}
+use Rattle.std.specs.Prelude.{◌≡◌, ℕ, ◌+◌, ◌-◌, ◌<◌, true, cond, ◌⊎◌, List, [], ◌∷◌, ◌++◌, length, map, Option, Some, None, is_some, slice_set, Result, Ok, Err, take, Contains}
 use Rattle.std.specs.List.{sum_by}
 use Rattle.hk_base.specs.declared.refusal.NoMemory.{NoMemory}
 use Rattle.hk_chain.specs.declared.page.Page.{Page}

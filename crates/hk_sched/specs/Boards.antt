@@ -1,5 +1,5 @@
 -- When a board's parts fit one another.
-use Rattle.std.specs.Prelude.{◌≡◌, ℕ, ◌+◌, ◌≤◌, List, [], length}
+use Rattle.std.specs.Prelude.{◌≡◌, ℕ, ◌+◌, ◌≤◌, List, length}
 use Rattle.hk_chain.specs.Layout.{Shape, IsLayout, pairs}
 use Rattle.hk_fix.specs.declared.event.Event.{Event}
 use Rattle.hk_sched.specs.Standings.{RosterView}

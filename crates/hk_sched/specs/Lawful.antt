@@ -1,17 +1,20 @@
 -- When a board, and what it hands out, are lawful for a run.
-use Rattle.std.specs.Prelude.{◌≡◌, ℕ, ◌+◌, ◌-◌, ◌<◌, ◌≤◌, Bool, true, false, cond, ◌⊎◌, List, [], length, reverse, Option, Some, is_some, slice_get}
+use Rattle.std.specs.Prelude.{◌≡◌, ℕ, ◌-◌, ◌<◌, ◌≤◌, true, false, cond, ◌⊎◌, List, [], length, reverse, Some, is_some, slice_get}
 use Rattle.hk_chain.specs.declared.page.Page.{Page}
 use Rattle.hk_chain.specs.declared.fault.Fault.{Fault}
 use Rattle.hk_chain.specs.Facts.{FactsView}
 use Rattle.hk_chain.specs.Kept.{KeptView, at_place}
 use Rattle.hk_chain.specs.Layout.{Shape, pairs, item_of}
+use Rattle.hk_chain.specs.Traces.{AreFacts, AllAreFacts}
 use Rattle.hk_fix.specs.declared.polled.Polled.{Polled}
 use Rattle.hk_fix.specs.declared.polled.Polled.TheVariants as polled
 use Rattle.hk_fix.specs.declared.event.Event.{Event}
 use Rattle.hk_fix.specs.declared.event.Event.TheVariants.{Begin}
 use Rattle.hk_fix.specs.Calls.{run_of, to_give}
 use Rattle.hk_fix.specs.Facts.{facts_of, whole_log}
-use Rattle.hk_fix.specs.Fix.{Seeds, IsSetting, seeded, seeds_of, fix, status, after, stands, ended, Ending, LawfulNewest, IsComplete}
+use Rattle.hk_fix.specs.Fix.{Seeds, IsSetting, seeded, seeds_of, fix, status, after, stands, ended, finished, is_finished, LawfulNewest, IsComplete}
+use Rattle.hk_fix.specs.Report as report
+use Rattle.hk_fix.specs.Report.{CanReport}
 use Rattle.hk_fix.specs.Meaning.{Meaning}
 use Rattle.hk_fix.specs.Pages.{Pages, Extends, lacking}
 use Rattle.hk_fix.specs.Results.{ResultsView}
@@ -19,7 +22,7 @@ use Rattle.hk_fix.specs.Run.{snapshot}
 use Rattle.hk_fix.specs.Task.{done, fault, waits, Run}
 use Rattle.hk_sched.specs.declared.turn.Turn.{Turn}
 use Rattle.hk_sched.specs.declared.turn.Turn.TheVariants as turn
-use Rattle.hk_sched.specs.Standings.{Standing, unbegun, again, out, held, over, is_ready}
+use Rattle.hk_sched.specs.Standings.{Standing, unbegun, again, out, held, over}
 use Rattle.hk_sched.specs.Board.{BoardView, place_at, IsBacked}
 
 -- what a run is about: what its compilers have in common, the layout, and the kept pages and facts
@@ -42,6 +45,12 @@ pub record IsRunOf (lay : Shape) (run : ℕ → Pages → Run Page) (seeds : See
   pub pages : at_place r.pages ≡ fix lay run seeds
   pub outcome_count : length r.outcomes ≡ lay.items
   pub outcomes : (i : ℕ) → i < lay.items → slice_get r.outcomes i ≡ Some (status lay run seeds i)
+  -- so each item that waits does so for pairs of items that aren't done,
+  pub reports : CanReport lay r.outcomes
+  -- a done item has a page for each of its pairs,
+  pub pages_of_done : (p : ℕ) → p < pairs lay → is_finished (report.ending_at r.outcomes (item_of lay p)) ≡ true → is_some (at_place r.pages p) ≡ true
+  -- and its facts are those of a run that went through, where those of the seeds are
+  pub facts_of_done : AllAreFacts lay seeds.facts → (i : ℕ) (f : FactsView) → i < lay.items → slice_get r.outcomes i ≡ Some (finished f) → AreFacts lay i f
 
 module _ {C : Type 0} (run : C → ℕ → Pages → Run Page) where
   -- the layout is the one that the common value determines, the runs keep the laws, and what is kept are seeds
@@ -65,6 +74,12 @@ module _ {C : Type 0} (run : C → ℕ → Pages → Run Page) where
     pub few : m.given ≤ length (to_give run m)
     pub asks : 0 < length m.awaits → IsAsking m
 
+  -- a lawful compiler that is off the board and may be polled
+  pub record MayPoll (key : Key C) (m : Meaning C) : Type 0 where
+    pub machine : IsMachine key m
+    pub going : m.has_ended ≡ false
+    pub closed : m.awaits ≡ []
+
   -- an item has begun and hasn't ended
   pub record IsGoing (h : List Event) (i : ℕ) : Type 0 where
     pub begun : stands (Begin i) h ≡ true
@@ -73,7 +88,7 @@ module _ {C : Type 0} (run : C → ℕ → Pages → Run Page) where
   module _ {X : Type 0} (meaning : X → Meaning C) where
     abbrev pub IsTurn : Key C → Turn X → Type 0
     IsTurn key (turn.Fresh i) = (i < key.lay.items) × (seeded (sown key) i ≡ false)
-    IsTurn key (turn.Woken x) = IsMachine key (meaning x) × ((meaning x).has_ended ≡ false) × ((meaning x).awaits ≡ [])
+    IsTurn key (turn.Woken x) = MayPoll key (meaning x)
 
     -- a compiler of the item that stands on the board, or is parked and used known pairs alone
     pub record IsHeld (key : Key C) (k : Pages) (i : ℕ) (m : Meaning C) : Type 0 where

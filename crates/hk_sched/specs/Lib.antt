@@ -1,8 +1,7 @@
 pub mod Board
+pub mod BoardLaws
 pub mod Boards
 pub mod Lawful
-pub mod Mutual
-pub mod MutualLaws
 pub mod Places
 pub mod Progress
 pub mod Rosters

@@ -1,5 +1,5 @@
 -- Where the items of a board stand, and what the known pages make of it.
-use Rattle.std.specs.Prelude.{◌≡◌, ℕ, Bool, true, false, cond, not, List, [], ◌∷◌, length, Option, Some, None, filter, slice_index_or}
+use Rattle.std.specs.Prelude.{◌≡◌, ℕ, Bool, true, false, cond, not, List, [], ◌∷◌, Option, Some, None, filter, slice_index_or}
 use Rattle.hk_chain.specs.declared.page.Page.{Page}
 use Rattle.hk_chain.specs.Facts.{FactsView}
 use Rattle.hk_fix.specs.Pages.{Pages, lacking}

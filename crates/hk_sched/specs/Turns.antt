@@ -1,5 +1,5 @@
 -- What a board hands out, and what it says of an ask.
-use Rattle.std.specs.Prelude.{◌≡◌, ℕ, ◌<◌, Bool, true, false, List, [], length, Option, Some, None, slice_set, Result, Ok, Err}
+use Rattle.std.specs.Prelude.{◌≡◌, ℕ, ◌<◌, false, List, [], length, Option, Some, None, slice_set, Result, Ok, Err}
 use Rattle.hk_base.specs.declared.refusal.NoMemory.{NoMemory}
 use Rattle.hk_chain.specs.declared.page.Page.{Page}
 use Rattle.hk_chain.specs.Kept.{at_place}

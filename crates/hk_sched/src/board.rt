@@ -1,6 +1,5 @@
 // The board of suspended compilers.
 ghost use Rattle.std.specs.Prelude.{◌≡◌, ◌<◌, ◌↔◌, [], length, Some, None, IfOk, MatchOption, All, true, false};
-ghost use Rattle.std.specs.Arc.{arc_value};
 ghost use Rattle.hk_chain.specs.Kept.{IsKept};
 ghost use Rattle.hk_chain.specs.Layout.{IsLayout, final_of};
 ghost use Rattle.hk_sched.specs.Standings.{out, standing_at};
@@ -10,18 +9,17 @@ ghost use Rattle.hk_sched.specs.Board.{BoardView, opened, place_at, after_save, 
 use crate::place::Place;
 use crate::roster::Roster;
 use crate::turn::{Asked, Ready, Turn};
-use hk_base::NoMemory;
+use hk_base::{NoMemory, Shared};
 use hk_chain::{Facts, Fault, ItemNo, Kept, Layout, PageRef, PairNo};
 use hk_fix::{Compiler, Event, Outcome, Results};
 use std::alloc::Global;
 use std::marker::Model;
-use std::sync::Arc;
 
 /// The board of suspended compilers: the known pages, where each item stands, and the events so far.
 #[derive(Drop)]
 pub struct Board<M: Compiler> {
     common: M::Common,
-    layout: Arc<Layout, Global>,
+    layout: Shared<Layout>,
     roster: Roster<M>,
     /// Room for the items' ends.
     room: Vec<Outcome>,
@@ -30,16 +28,15 @@ pub struct Board<M: Compiler> {
 
 impl<M: Compiler> Model for Board<M> {
     ghost use Rattle.std.specs.Prelude.{◌≡◌, []};
-    ghost use Rattle.std.specs.Arc.{arc_value};
     ghost use Rattle.std.specs.Vec.{vec_capacity};
     ghost use Rattle.hk_sched.specs.Board.{BoardView};
     ghost use Rattle.hk_sched.specs.Boards.{IsBoard};
 
     ghost Value = { BoardView M M.Common };
 
-    ghost view = { λ b. record { common = b.common; lay = arc_value b.layout; known = b.roster.known; places = b.roster.places; history = b.history.items } };
+    ghost view = { λ b. record { common = b.common; lay = b.layout; known = b.roster.known; places = b.roster.places; history = b.history.items } };
 
-    ghost invariant = { λ b. IsBoard (arc_value b.layout) b.roster b.history.items (vec_capacity b.room) (vec_capacity b.history) × (b.room.items ≡ []) };
+    ghost invariant = { λ b. IsBoard (b.layout) b.roster b.history.items (vec_capacity b.room) (vec_capacity b.history) × (b.room.items ≡ []) };
 }
 
 impl<M: Compiler> Board<M> {
@@ -48,14 +45,14 @@ impl<M: Compiler> Board<M> {
     pub fn open(
         alloc: Global,
         common: M::Common,
-        layout: Arc<Layout, Global>,
+        layout: Shared<Layout>,
         kept: Kept,
     ) -> Result<Board<M>, NoMemory>
-        requires { IsKept (arc_value layout) kept }
-        ensures { IfOk result (λ b. b ≡ opened common (arc_value layout) kept) }
+        requires { IsKept layout kept }
+        ensures { IfOk result (λ b. b ≡ opened common layout kept) }
     {
-        let items = layout.items() as usize;
-        let pairs = layout.pairs() as usize;
+        let items = layout.get().items() as usize;
+        let pairs = layout.get().pairs() as usize;
         Ok(Board {
             common,
             layout,
@@ -139,7 +136,7 @@ impl<M: Compiler> Board<M> {
         requires { place_at self.old item ≡ out }
         ensures { self.new ≡ after_done self.old item page facts }
     {
-        let pair = self.layout.final_of(item);
+        let pair = self.layout.get().final_of(item);
         self.history.push_reserved(Event::Done(item));
         self.roster.put(item, Place::Over(Outcome::Done(facts)), 0);
         self.roster.know(pair, page);
@@ -166,7 +163,6 @@ impl<M: Compiler> Board<M> {
     /// Whether a compiler's item was handed out, and each pair that it used is known. Takes no memory. Linear in those
     /// pairs.
     pub fn admits(&self, machine: &M) -> bool
-        requires { (M.meaning machine.now).is_spent ≡ false }
         ensures { (result ≡ true) ↔ Admits M.run self.now (M.meaning machine.now) }
     {
         self.roster.is_out(machine.item()) && self.roster.are_known(machine.used())

@@ -3,20 +3,18 @@
 
 mod board;
 mod closing;
+mod finishing;
 mod keeping;
-#[cfg(test)]
-mod mutual;
 mod opening;
 mod place;
 mod roster;
 mod run;
 mod sends;
 mod stacks;
-#[cfg(test)]
-mod tests;
 mod turn;
 
 pub use board::Board;
+pub use finishing::finish;
 pub use keeping::{lawful_board, lawful_polls};
 pub use run::run_one;
 pub use turn::{Asked, Turn};

@@ -232,13 +232,21 @@ fn answer_all<M: Compiler>(known: &[Option<PageRef>], machine: M) -> Result<M, M
             return Ok(machine);
         }
         let pair = open[0];
-        match &known[pair.0 as usize] {
-            Some(page) => match page.try_clone() {
-                Ok(page) => machine.answer(pair, page),
-                Err(_) => return Err(machine),
-            },
-            None => return Err(machine),
+        match page_of(known, pair) {
+            Ok(page) => machine.answer(pair, page),
+            Err(_) => return Err(machine),
         }
+    }
+}
+
+/// The page of a known pair, handed on. A refusal counts as want of memory. Constant.
+fn page_of(known: &[Option<PageRef>], pair: PairNo) -> Result<PageRef, NoMemory>
+    requires { is_some (at_place known.now pair) ≡ true }
+    ensures { IfOk result (λ p. at_place known.now pair ≡ Some p) }
+{
+    match &known[pair.0 as usize] {
+        Some(page) => page.try_clone(),
+        None => Err(NoMemory),
     }
 }
 

@@ -5,14 +5,17 @@ use hk_fix::Compiler;
 
 fn sends<T: Send>(_value: &T) {}
 
-fn board<M: Compiler>(value: &Board<M>) {
+fn board<M: Compiler + Send>(value: &Board<M>)
+where
+    M::Common: Send,
+{
     sends(value);
 }
 
-fn turn<M: Compiler>(value: &Turn<M>) {
+fn turn<M: Compiler + Send>(value: &Turn<M>) {
     sends(value);
 }
 
-fn asked<M: Compiler>(value: &Asked<M>) {
+fn asked<M: Compiler + Send>(value: &Asked<M>) {
     sends(value);
 }

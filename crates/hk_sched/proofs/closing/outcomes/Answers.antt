@@ -1,4 +1,4 @@
-use Rattle.std.proofs.Common.{rules, arith, ◌≡◌, ◌<◌, ◌∙◌, length, map, ap, ◌∷◌, true}
+use Rattle.std.proofs.Common.{arith, ◌≡◌, ◌∙◌, length, map, ap, ◌∷◌, true}
 use Rattle.hk_chain.specs.Kept.{at_place}
 use Rattle.hk_fix.specs.Outcomes.{outcome_view}
 use Rattle.hk_sched.specs.Standings.{ending_at, is_settled}

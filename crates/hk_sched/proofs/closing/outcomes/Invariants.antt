@@ -1,4 +1,4 @@
-use Rattle.std.proofs.Common.{◌≡◌, ◌≤◌, ◌+◌, map, length, true, All}
+use Rattle.std.proofs.Common.{◌≡◌, ◌+◌, map, length, true, All}
 use Rattle.std.specs.Vec.{vec_capacity}
 use Rattle.hk_chain.specs.Kept.{at_place}
 use Rattle.hk_fix.specs.Outcomes.{outcome_view}

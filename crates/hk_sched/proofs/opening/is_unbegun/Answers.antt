@@ -1,5 +1,4 @@
 use Rattle.std.proofs.Common.{refl}
-use Rattle.hk_sched.specs.Places.{standing}
 use Rattle.hk_sched.proofs.Firsts.{not-first}
 use Rattle.hk_sched.proofs.opening.is_unbegun.Goals as goal
 

@@ -1,10 +1,10 @@
-use Rattle.std.proofs.Common.{rules, map, refl, sym, ap, ◌∙◌, ◌≡◌, ◌<◌, ◌-◌, length, arith, Some, None}
+use Rattle.std.proofs.Common.{map, refl, sym, ap, ◌∙◌, ◌≡◌, ◌<◌, ◌-◌, length, arith, Some}
 use Rattle.std.proofs.lemmas.List.{length-map}
 use Rattle.hk_sched.specs.declared.stacks.Stack.TheVariants.{Fresh}
 use Rattle.hk_sched.specs.Stacks.{StacksView}
 use Rattle.hk_sched.specs.Places.{standing}
 use Rattle.hk_sched.specs.Rosters.{first_stack}
-use Rattle.hk_sched.proofs.Firsts.{StoodFrom, stood-none, stood-more, stood-same, stood-all}
+use Rattle.hk_sched.proofs.Firsts.{stood-none, stood-more, stood-same, stood-all}
 use Rattle.hk_sched.proofs.Rosters.{place-at}
 use Rattle.hk_sched.proofs.opening.stand_fresh.Goals as goal
 

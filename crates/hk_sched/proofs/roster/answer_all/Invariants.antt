@@ -1,4 +1,4 @@
-use Rattle.std.proofs.Common.{length, []}
+use Rattle.std.proofs.Common.{length}
 use Rattle.hk_chain.specs.Kept.{at_place}
 use Rattle.hk_sched.specs.Standings.{SomeTold}
 use Rattle.hk_sched.proofs.roster.answer_all.Given as goal

@@ -1,4 +1,4 @@
-use Rattle.std.proofs.Common.{refl, sym, ap, map, ◌∙◌}
+use Rattle.std.proofs.Common.{sym, ap, map, ◌∙◌}
 use Rattle.std.proofs.lemmas.List.{set-set}
 use Rattle.hk_sched.specs.Standings.{standing_at}
 use Rattle.hk_sched.specs.Places.{standing}

@@ -1,4 +1,4 @@
-use Rattle.std.proofs.Common.{rules, map}
+use Rattle.std.proofs.Common.{map}
 use Rattle.hk_sched.specs.Places.{standing}
 use Rattle.hk_sched.proofs.Rosters.{woken, wake-step, wake-smaller}
 use Rattle.hk_sched.proofs.roster.wake.Goals as goal

@@ -1,7 +1,6 @@
-use Rattle.std.proofs.Common.{rules, ◌≡◌, ◌∙◌, ap, sym, refl, subst, ℕ, is_some, true}
-use Rattle.std.specs.Arc.{arc_value}
-use Rattle.hk_sched.specs.Standings.{RosterView, standing_at, is_out, out}
-use Rattle.hk_sched.specs.Board.{BoardView, place_at, Admits}
+use Rattle.std.proofs.Common.{◌≡◌, ◌∙◌, ap, sym, subst, ℕ, true}
+use Rattle.hk_sched.specs.Standings.{standing_at, is_out, out}
+use Rattle.hk_sched.specs.Board.{BoardView, Admits}
 use Rattle.hk_sched.proofs.Rosters.{is-out}
 use Rattle.hk_sched.proofs.Admitting.{admits-iff}
 use Rattle.hk_sched.proofs.board.Board.admits.Goals as goal
@@ -12,5 +11,5 @@ returns-then-is_out g c =
     is-out (standing_at c.self.inside.roster.places (g.M.Compiler.meaning c.args.machine.now).item) (ap (λ (n : ℕ). is_out (standing_at c.self.inside.roster.places n)) (sym c.item.ensures) ∙ sym c.if-is_out.ensures) in
     subst (λ (b : BoardView g.row.M.Denot g.row.M-Common.Denot). (c.are_known.result ≡ true → Admits g.M.Compiler.run b (g.M.Compiler.meaning c.args.machine.now)) × (Admits g.M.Compiler.run b (g.M.Compiler.meaning c.args.machine.now) → c.are_known.result ≡ true))
     c.self.view_is
-    (admits-iff g.M.Compiler.run (record { common = c.self.inside.common; lay = arc_value c.self.inside.layout; known = c.self.inside.roster.known; places = c.self.inside.roster.places; history = c.self.inside.history.items }) (g.M.Compiler.meaning c.args.machine.now)
-    c.used.result.now c.requires c.used.ensures here c.are_known.result c.are_known.ensures)
+    (admits-iff g.M.Compiler.run (record { common = c.self.inside.common; lay = c.self.inside.layout; known = c.self.inside.roster.known; places = c.self.inside.roster.places; history = c.self.inside.history.items }) (g.M.Compiler.meaning c.args.machine.now)
+    c.used.result.now c.used.ensures here c.are_known.result c.are_known.ensures)

@@ -1,6 +1,4 @@
-use Rattle.std.proofs.Common.{◌≡◌, ◌∙◌, [], ap, sym}
 use Rattle.hk_chain.specs.Kept.{at_place}
-use Rattle.hk_fix.specs.Pages.{lacking}
 use Rattle.hk_sched.proofs.Taking.{lacks-some}
 use Rattle.hk_sched.proofs.roster.Roster.ask.Goals as goal
 

@@ -1,6 +1,5 @@
-use Rattle.std.proofs.Common.{rules, map, ◌≡◌, ◌∙◌, ◌<◌, refl, ap, sym, false, below_more, length, arith}
-use Rattle.hk_sched.specs.Standings.{RosterView, standing_at, is_out, out}
-use Rattle.hk_sched.specs.Places.{standing}
+use Rattle.std.proofs.Common.{◌≡◌, ◌∙◌, refl, ap, sym, false, below_more, arith}
+use Rattle.hk_sched.specs.Standings.{RosterView, standing_at, is_out}
 use Rattle.hk_sched.proofs.Rosters.{place-at, is-out}
 use Rattle.hk_sched.proofs.roster.Roster.first_out.Goals as goal
 

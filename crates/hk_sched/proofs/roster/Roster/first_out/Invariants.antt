@@ -1,4 +1,4 @@
-use Rattle.std.proofs.Common.{◌≡◌, ℕ, ◌<◌, map, false}
+use Rattle.std.proofs.Common.{◌≡◌, ℕ, ◌<◌, false}
 use Rattle.hk_sched.specs.Standings.{standing_at, is_out}
 use Rattle.hk_sched.proofs.roster.Roster.first_out.Given as goal
 

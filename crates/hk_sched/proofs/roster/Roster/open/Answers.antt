@@ -1,4 +1,4 @@
-use Rattle.std.proofs.Common.{rules, map, length, ap, sym, ◌≡◌, ℕ, ◌∙◌, arith}
+use Rattle.std.proofs.Common.{map, length, ap, ◌≡◌, ◌∙◌, arith}
 use Rattle.std.proofs.lemmas.List.{length-map}
 use Rattle.hk_sched.specs.Stacks.{StacksView}
 use Rattle.hk_sched.specs.Places.{standing}

@@ -1,4 +1,4 @@
-use Rattle.std.proofs.Common.{map, length, ◌<◌, ◌≡◌}
+use Rattle.std.proofs.Common.{map, ◌≡◌}
 use Rattle.hk_sched.specs.Standings.{out, standing_at}
 use Rattle.hk_sched.specs.Places.{standing}
 use Rattle.hk_sched.proofs.Rosters.{put-fits, out-below}

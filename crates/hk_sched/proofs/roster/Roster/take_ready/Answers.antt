@@ -1,7 +1,6 @@
-use Rattle.std.proofs.Common.{rules, refl, length, map, ◌<◌, ◌≡◌, arith, ap, sym, ◌∙◌, subst, Ok, Err}
-use Rattle.hk_sched.specs.Standings.{RosterView, held, standing_at}
+use Rattle.std.proofs.Common.{refl, map, arith, subst, Ok}
+use Rattle.hk_sched.specs.Standings.{RosterView}
 use Rattle.hk_sched.specs.Places.{standing}
-use Rattle.hk_sched.specs.Stacks.{StacksView}
 use Rattle.hk_sched.specs.declared.turn.Ready.TheVariants as ready
 use Rattle.hk_sched.specs.Turns.{Takes, TakesReady, ToldOne}
 use Rattle.hk_sched.proofs.Rosters.{many-stacks}
@@ -17,8 +16,8 @@ returns-in_default g c =
     subst (λ (r : RosterView g.row.M.Denot). Takes g.M.Compiler.meaning r (Ok c.begin.result) (record { known = c.self.inside.known.items; places = map standing c.begin.new.places.items })) c.self.view_is
     (begin-takes g.M.Compiler.meaning c.self.inside.known.items (map standing c.self.inside.places.items) c.self.inside.cursors.items c.self.inside.stacks c.self.invariant c.begin.result _ _ (rw c.in_default.ensures.1 at c.begin.ensures) c.in_default.ensures.0)
 
-pub resume-requires-after_bounds : goal.resume-requires-after_bounds
-resume-requires-after_bounds g c κs within =
+pub resume-requires : goal.resume-requires
+resume-requires g c =
     rw c.deref.ensures.value (woken-held g.M.Compiler.meaning c.self.inside.known.items (map standing c.self.inside.places.items) c.self.inside.cursors.items c.self.inside.stacks c.self.invariant c.in-Some.item c.in-Some.ensures.1)
 
 pub invariant_of-self-in-Ok : goal.invariant_of-self-in-Ok

@@ -1,5 +1,4 @@
-use Rattle.std.proofs.Common.{arith, ◌≡◌, ◌≤◌, length, ◌∙◌, refl, ap, slice_set, None, length-set}
-use Rattle.hk_sched.specs.Stacks.{StacksView}
+use Rattle.std.proofs.Common.{arith, refl, length-set}
 use Rattle.hk_sched.proofs.Chains.{pop-below, pop-linked, pop-on, pop-links, empty-none}
 use Rattle.hk_sched.proofs.stacks.Stacks.pop.Goals as goal
 

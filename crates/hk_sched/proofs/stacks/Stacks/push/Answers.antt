@@ -1,4 +1,3 @@
-use Rattle.std.proofs.Common.{arith, ◌≤◌, length}
 use Rattle.hk_sched.proofs.Chains.{push-links}
 use Rattle.hk_sched.proofs.stacks.Stacks.push.Goals as goal
 

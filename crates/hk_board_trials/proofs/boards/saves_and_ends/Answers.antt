@@ -1,0 +1,15 @@
+use Rattle.std.proofs.Common.{◌≡◌, ◌∙◌, ap, List, Bool}
+use Rattle.hk_board_trials.specs.declared.mutual.Mutual.{Mutual}
+use Rattle.hk_sched.specs.Standings.{Standing, standing_at}
+use Rattle.hk_sched.specs.Board.{BoardView, place_at}
+use Rattle.hk_sched.proofs.Polls.{save-places}
+use Rattle.hk_board_trials.proofs.boards.saves_and_ends.Goals as goal
+
+pub finish-requires : goal.finish-requires
+finish-requires g c =
+    let i = c.in-Some.item in
+    let there = rw c.in-Some.is at c.in_ok-item.ensures.out in
+    ap (λ (b : BoardView Mutual Bool). place_at b i) c.save-in-Some.ensures
+    ∙ ap (λ (ps : List (Standing Mutual)). standing_at ps i) (save-places c.save.new.self 0 c.in_ok-page-2.field-0)
+    ∙ ap (λ (b : BoardView Mutual Bool). place_at b i) c.save.ensures
+    ∙ ap (λ (ps : List (Standing Mutual)). standing_at ps i) (save-places c.fresh_item.new.board 0 c.in_ok-page.field-0) ∙ there.1
