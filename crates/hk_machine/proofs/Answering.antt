@@ -22,17 +22,17 @@ use Rattle.hk_rules.specs.PlanView.{PlanView}
 use Rattle.hk_machine.specs.Chain.{chain_task}
 use Rattle.hk_machine.specs.Keeping.{Came, Keeps, HasRoom}
 use Rattle.hk_machine.specs.Laws.{chains-are}
-use Rattle.hk_machine.specs.Leading.{Went}
+use Rattle.hk_eval.specs.Leading.{Went}
 use Rattle.hk_machine.specs.Machine.{plan_shape, plan_run, way_meaning}
-use Rattle.hk_machine.specs.Noted.{with_save}
-use Rattle.hk_machine.specs.Runnable.{own_pairs, IsRunnable}
-use Rattle.hk_machine.specs.Told.{ToldView, told_pages, is_listed}
-use Rattle.hk_machine.specs.Working.{left}
+use Rattle.hk_eval.specs.Noted.{with_save}
+use Rattle.hk_machine.specs.Runnable.{own_pairs, Runs}
+use Rattle.hk_eval.specs.Told.{ToldView, told_pages, is_listed}
+use Rattle.hk_machine.specs.Working.{left, IsWorkOf}
 use Rattle.hk_machine.specs.declared.way.Way.{Way}
 use Rattle.hk_machine.specs.declared.work.Work.{Work}
 use Rattle.hk_machine.proofs.Coming.{came-settled, came-went, came-end, came-all, came-next, came-gave, came-told, waits-untold, came-done, came-facts}
 
-module _ (plan : PlanView) (item : ℕ) (fit : IsRunnable (lookups plan) (length plan.items) (length plan.patterns)) (lt : item < length plan.items) where
+module _ (plan : PlanView) (item : ℕ) (fit : Runs plan) (lt : item < length plan.items) where
   abbrev P : Lookups
   P = lookups plan
 
@@ -43,27 +43,26 @@ module _ (plan : PlanView) (item : ℕ) (fit : IsRunnable (lookups plan) (length
   inside = omega (arith, fit.count)
 
   -- nothing is awaited
-  pub no-room : (way : Way) → way.awaits.items ≡ [] → HasRoom way
+  pub no-room : (way : Way) → way.awaits ≡ [] → HasRoom way
   unfolding IsDistinct
   no-room way e =
       record {
         listed = subst (AllByRecursion (λ p. is_listed way.told p ≡ true)) (sym e) tt;
         untold = subst (AllByRecursion (λ p. told_pages way.told p ≡ None)) (sym e) tt;
-        distinct = subst (IsDistinct nat_eq) (sym e) tt;
-        room = λ some. let z : length way.awaits.items ≡ 0 = ap length e in absurd (omega arith);
+        room = λ some. let z : length way.awaits ≡ 0 = ap length e in absurd (omega arith);
       }
 
-  module _ (old : Way) (keeps : Keeps (lookups plan) item old) (closed : old.awaits.items ≡ []) (going : old.is_ended ≡ false) (work : Work) (last : Option ℕ) (used : Vec PairNo Global) (none : last ≡ None) (put : used.items ≡ old.used.items ++ option_to_list old.last) where
+  module _ (old : Way) (keeps : Keeps plan item old) (closed : old.awaits ≡ []) (going : old.is_ended ≡ false) (work : Work) (last : Option ℕ) (used : Vec PairNo Global) (none : last ≡ None) (put : used.items ≡ old.used.items ++ option_to_list old.last) where
     abbrev k : Pages
     k = told_pages old.told
 
     begun : Came (chain_task (lookups plan) item) (told_pages old.told) (left (lookups plan) item old.work) old.work.notes old.given None used.items
-    begun = subst (λ f. Came T k (left P item old.work) f old.given None used.items) (sym (keeps.notes going)) (came-settled T k (left P item old.work) keeps.facts old.given old.last old.used.items used.items keeps.came put)
+    begun = came-settled T k (left P item old.work) old.work.notes old.given old.last old.used.items used.items keeps.came put
 
     -- a page is saved
     module _ (pair : ℕ) (went : Went (told_pages old.told) (left (lookups plan) item old.work) old.work.notes (notes (saved pair work.page) (left (lookups plan) item work)) work.notes) where
       abbrev given_way : Way
-      given_way = record { work = record { at = work.at; page = work.page; notes = with_save work.notes pair }; told = old.told; awaits = old.awaits; given = old.given + 1; last = Some pair; used = used; is_ended = old.is_ended }
+      given_way = record { work = record { at = work.at; page = work.page; rendering = work.rendering; notes = with_save work.notes pair }; told = old.told; awaits = old.awaits; given = old.given + 1; last = Some pair; used = used; is_ended = old.is_ended }
 
       came-there : Came T k (notes (saved pair work.page) (left P item work)) work.notes old.given None used.items
       came-there = came-went T k (left P item old.work) (notes (saved pair work.page) (left P item work)) old.work.notes work.notes old.given None used.items begun went
@@ -71,12 +70,11 @@ module _ (plan : PlanView) (item : ℕ) (fit : IsRunnable (lookups plan) (length
       pub save-goes : (polled : Polled) → polled ≡ Saved pair work.page → Goes plan_shape plan_run (way_meaning plan item old) polled (way_meaning plan item given_way)
       save-goes polled e = subst (λ (p : Polled). Goes plan_shape plan_run (way_meaning plan item old) p (way_meaning plan item given_way)) (sym e) (came-next T k (left P item work) work.notes old.given used.items pair work.page came-there, refl)
 
-      pub save-keeps : old.work.at + 1 ≤ work.at → Keeps (lookups plan) item given_way
-      save-keeps more =
+      pub save-keeps : IsWorkOf plan work → old.work.at + 1 ≤ work.at → Keeps plan item given_way
+      save-keeps within more =
           record {
-            facts = with_save work.notes pair;
             came = came-gave T k (left P item work) work.notes old.given used.items pair work.page came-there;
-            notes = λ e. refl;
+            within = within;
             bound = omega (arith, keeps.bound);
           }
 
@@ -91,22 +89,24 @@ module _ (plan : PlanView) (item : ℕ) (fit : IsRunnable (lookups plan) (length
       pub ask-untold : AllByRecursion (λ p. told_pages old.told p ≡ None) pairs.items
       ask-untold = waits-untold T k pairs.items whole-waits
 
+      pub ask-distinct : IsDistinct nat_eq pairs.items
+      ask-distinct = run_once T ((chains-are P (length plan.items) (length plan.contexts) (length plan.patterns) fit).distinct item inside) k pairs.items whole-waits
+
       module _ (told : ToldView) (more : Vec PairNo Global) (pages : (q : ℕ) → told_pages told q ≡ told_pages old.told q) (same : more.items ≡ used.items) where
         abbrev waiting_way : Way
-        waiting_way = record { work = work; told = told; awaits = pairs; given = old.given; last = last; used = more; is_ended = old.is_ended }
+        waiting_way = record { work = work; told = told; awaits = pairs.items; given = old.given; last = last; used = more; is_ended = old.is_ended }
 
-        waiting-meaning : way_meaning plan item (record { work = work; told = told; awaits = pairs; given = old.given; last = last; used = more; is_ended = old.is_ended }) ≡ (let m : Meaning PlanView = record (way_meaning plan item old) { awaits = pairs.items; just_saved = false } in m)
+        waiting-meaning : way_meaning plan item (record { work = work; told = told; awaits = pairs.items; given = old.given; last = last; used = more; is_ended = old.is_ended }) ≡ (let m : Meaning PlanView = record (way_meaning plan item old) { awaits = pairs.items; just_saved = false } in m)
         waiting-meaning = let f : told_pages told ≡ told_pages old.told = fun_ext pages in λ i. record { common = plan; item = item; told = f i; given = old.given; awaits = pairs.items; has_ended = old.is_ended; just_saved = is_some (none i); is_spent = false }
 
         pub ask-goes : (polled : Polled) → polled ≡ Ask → Goes plan_shape plan_run (way_meaning plan item old) polled (way_meaning plan item waiting_way)
         ask-goes polled e = subst (λ (p : Polled). Goes plan_shape plan_run (way_meaning plan item old) p (way_meaning plan item waiting_way)) (sym e) (came-all T k (left P item work) work.notes old.given None used.items came-here quiet, whole-waits, waiting-meaning)
 
-        pub ask-keeps : old.work.at ≤ work.at → Keeps (lookups plan) item waiting_way
-        ask-keeps le =
+        pub ask-keeps : IsWorkOf plan work → old.work.at ≤ work.at → Keeps plan item waiting_way
+        ask-keeps within le =
             record {
-              facts = work.notes;
               came = subst (λ l. Came T (told_pages told) (left P item work) work.notes old.given l more.items) (sym none) (subst (λ l. Came T (told_pages told) (left P item work) work.notes old.given None l) (sym same) (came-told T k (told_pages told) (left P item work) work.notes old.given None used.items pages came-here));
-              notes = λ e. refl;
+              within = within;
               bound = omega (arith, keeps.bound);
             }
 
@@ -115,7 +115,6 @@ module _ (plan : PlanView) (item : ℕ) (fit : IsRunnable (lookups plan) (length
             record {
               listed = listed;
               untold = each pairs.items ask-untold;
-              distinct = run_once T ((chains-are P (length plan.items) (length plan.patterns) fit).distinct item inside) k pairs.items whole-waits;
               room = λ some. omega (arith, ap length same);
             }
           where
@@ -126,14 +125,14 @@ module _ (plan : PlanView) (item : ℕ) (fit : IsRunnable (lookups plan) (length
     -- the chain is through
     module _ (went : Went (told_pages old.told) (left (lookups plan) item old.work) old.work.notes (left (lookups plan) item work) work.notes) (through : left (lookups plan) item work ≡ gives work.page) (now : FactsView) where
       abbrev done_way : Way
-      done_way = record { work = record { at = work.at; page = work.page; notes = now }; told = old.told; awaits = old.awaits; given = old.given; last = last; used = used; is_ended = true }
+      done_way = record { work = record { at = work.at; page = work.page; rendering = work.rendering; notes = now }; told = old.told; awaits = old.awaits; given = old.given; last = last; used = used; is_ended = true }
 
       came-through : Came T k (left P item work) work.notes old.given None used.items
       came-through = came-went T k (left P item old.work) (left P item work) old.work.notes work.notes old.given None used.items begun went
 
       pub done-goes : (polled : Polled) → polled ≡ Done work.page (with_save work.notes (final_of (lookups plan).layout item)) → Goes plan_shape plan_run (way_meaning plan item old) polled (way_meaning plan item done_way)
       done-goes polled e =
-          let are = chains-are P (length plan.items) (length plan.patterns) fit in
+          let are = chains-are P (length plan.items) (length plan.contexts) (length plan.patterns) fit in
           subst (λ (p : Polled). Goes plan_shape plan_run (way_meaning plan item old) p (way_meaning plan item done_way)) (sym e) (
             came-all T k (left P item work) work.notes old.given None used.items came-through (ap (λ t. saves_of (run t k).log) through),
             came-done P.layout item T k (own_pairs P item (P.chain item)) (are.saves item inside) (are.in_order item inside) (left P item work) work.notes old.given used.items work.page came-through through,
@@ -142,37 +141,13 @@ module _ (plan : PlanView) (item : ℕ) (fit : IsRunnable (lookups plan) (length
           )
         where
           ended-meaning : way_meaning plan item done_way ≡ (let m : Meaning PlanView = record (way_meaning plan item old) { has_ended = true; just_saved = false } in m)
-          ended-meaning = λ i. record { common = plan; item = item; told = told_pages old.told; given = old.given; awaits = old.awaits.items; has_ended = true; just_saved = is_some (none i); is_spent = false }
-
-      pub done-keeps : old.work.at ≤ work.at → Keeps (lookups plan) item done_way
-      done-keeps le =
-          record {
-            facts = work.notes;
-            came = subst (λ l. Came T k (left P item work) work.notes old.given l used.items) (sym none) came-through;
-            notes = λ e. cc;
-            bound = omega (arith, keeps.bound);
-          }
+          ended-meaning = λ i. record { common = plan; item = item; told = told_pages old.told; given = old.given; awaits = old.awaits; has_ended = true; just_saved = is_some (none i); is_spent = false }
 
     -- a fault
-    module _ (f : FactsView) (went : Went (told_pages old.told) (left (lookups plan) item old.work) old.work.notes (left (lookups plan) item work) f) (x : Fault) (ends : (run (left (lookups plan) item work) (told_pages old.told)).end ≡ fault x) (quiet : saves_of (run (left (lookups plan) item work) (told_pages old.told)).log ≡ []) where
-      abbrev failed_way : Way
-      failed_way = record { work = work; told = old.told; awaits = old.awaits; given = old.given; last = last; used = used; is_ended = true }
-
-      came-fault : Came T k (left P item work) f old.given None used.items
-      came-fault = came-went T k (left P item old.work) (left P item work) old.work.notes f old.given None used.items begun went
-
-      pub fail-goes : Goes plan_shape plan_run (way_meaning plan item old) (Failed x) (way_meaning plan item failed_way)
+    module _ (x : Fault) (ends : (run (left (lookups plan) item old.work) (told_pages old.told)).end ≡ fault x) (quiet : saves_of (run (left (lookups plan) item old.work) (told_pages old.told)).log ≡ []) where
+      pub fail-goes : Goes plan_shape plan_run (way_meaning plan item old) (Failed x) (way_meaning plan item (record { work = work; told = old.told; awaits = old.awaits; given = old.given; last = last; used = used; is_ended = true }))
       fail-goes = (
-        came-all T k (left P item work) f old.given None used.items came-fault quiet,
-        came-end T k (left P item work) f old.given None used.items (fault x) came-fault ends,
-        λ i. record { common = plan; item = item; told = told_pages old.told; given = old.given; awaits = old.awaits.items; has_ended = true; just_saved = is_some (none i); is_spent = false },
+        came-all T k (left P item old.work) old.work.notes old.given None used.items begun quiet,
+        came-end T k (left P item old.work) old.work.notes old.given None used.items (fault x) begun ends,
+        λ i. record { common = plan; item = item; told = told_pages old.told; given = old.given; awaits = old.awaits; has_ended = true; just_saved = is_some (none i); is_spent = false },
       )
-
-      pub fail-keeps : old.work.at ≤ work.at → Keeps (lookups plan) item failed_way
-      fail-keeps le =
-          record {
-            facts = f;
-            came = subst (λ l. Came T k (left P item work) f old.given l used.items) (sym none) came-fault;
-            notes = λ e. cc;
-            bound = omega (arith, keeps.bound);
-          }

@@ -6,9 +6,9 @@ use Rattle.hk_chain.specs.Facts.{FactsView}
 use Rattle.hk_fix.specs.Pages.{Pages}
 use Rattle.hk_fix.specs.Task.{asks, asked, done, Run, run, onward}
 use Rattle.hk_machine.specs.Acting.{Given}
-use Rattle.hk_machine.specs.Asking.{first_page, is_text, text_if, need_text}
-use Rattle.hk_machine.specs.Laws.{quiet-text}
-use Rattle.hk_machine.specs.Noted.{with_group}
+use Rattle.hk_eval.specs.Asking.{first_page, is_text, text_if, need_text}
+use Rattle.hk_eval.specs.Laws.{quiet-text}
+use Rattle.hk_eval.specs.Noted.{with_group}
 
 -- a page that was loaded
 pub load-given : (k : Pages) (p : ℕ) (x y : Page) (id : Ident) (f g : FactsView) → k p ≡ Some x → is_text x.kind ≡ true → g ≡ with_group f (p ∷ []) → y ≡ x → Given k (asks (p ∷ []) (λ xs. need_text id (first_page xs))) f y g

@@ -15,10 +15,10 @@ use Rattle.hk_chain.specs.Snapshots.{Ascending, AreSnapshots}
 use Rattle.hk_fix.specs.ChainLaws.{saved_pairs, run_saves_all}
 use Rattle.hk_fix.proofs.Trails.{in-append}
 use Rattle.hk_machine.specs.Keeping.{Came}
-use Rattle.hk_machine.specs.Leading.{Went}
-use Rattle.hk_machine.specs.Noted.{no_facts, with_save, noted}
-use Rattle.hk_machine.proofs.Firsts.{FreshSaves, noted-facts, noted-append}
-use Rattle.hk_machine.proofs.Running.{saves-append, leads-on, leads-more}
+use Rattle.hk_eval.specs.Leading.{Went}
+use Rattle.hk_eval.specs.Noted.{no_facts, with_save, noted}
+use Rattle.hk_eval.proofs.Firsts.{FreshSaves, noted-facts, noted-append}
+use Rattle.hk_eval.proofs.Running.{saves-append, leads-on, leads-more}
 
 pairs-append : (a b : List Mark) → saved_pairs (a ++ b) ≡ saved_pairs a ++ saved_pairs b
 pairs-append a b = ap (map (λ s. s.pair)) (saves-append a b) ∙ map-append (λ s. s.pair) (saves_of a) (saves_of b)

@@ -2,8 +2,7 @@
 use Rattle.std.proofs.Common.{◌≡◌, sym, ap, ◌∙◌, arith, ℕ, suc, ◌+◌, ◌<◌, Bool, true, List, ◌∷◌, ◌++◌, append_assoc, drop, drop-cons, length, map, get_or}
 use Rattle.hk_base.specs.Bytes.{Bytes}
 use Rattle.hk_chain.specs.declared.page.Page.{Page}
-use Rattle.hk_machine.specs.Asking.{is_text}
-use Rattle.hk_machine.specs.Chain.{other_by, other_kind}
+use Rattle.hk_eval.specs.Asking.{is_text, other_by, other_kind}
 use Rattle.hk_machine.specs.Groups.{bodies}
 
 pub rest-from : (xs : List ℕ) (i d : ℕ) → i < length xs → drop i xs ≡ get_or xs i d ∷ drop (i + 1) xs

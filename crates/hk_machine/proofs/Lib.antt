@@ -1,12 +1,17 @@
 pub mod Answering
+pub mod Applied
 pub mod Asked
 pub mod Beginning
+pub mod ChainDeeds
+pub mod ChainQuiet
 pub mod Coming
-pub mod Firsts
+pub mod Giving
 pub mod Grouping
 pub mod Joining
-pub mod Running
+pub mod Quieting
+pub mod Refused
+pub mod PlanProper
 pub mod Stopping
-pub mod Telling
+pub mod Turning
 pub mod Using
 mod Worked

@@ -1,7 +1,7 @@
 -- What a machine has used, and an answer that comes in.
-use Rattle.std.proofs.Common.{◌≡◌, refl, sym, ap, ◌∙◌, subst, arith, ℕ, suc, ◌+◌, ◌-◌, ◌≤◌, Bool, true, false, cond, ◌||◌, ◌&&◌, not, inl, inr, List, [], ◌∷◌, ◌++◌, length, length-append, map, take, filter, Option, Some, None, is_some, nat_eq, eqb-true, option_to_list, Contains, Vec}
+use Rattle.std.proofs.Common.{◌≡◌, refl, sym, ap, ◌∙◌, subst, arith, ℕ, suc, ◌+◌, ◌-◌, ◌≤◌, Bool, true, false, cond, ◌||◌, not, inl, inr, List, [], ◌∷◌, ◌++◌, length, length-append, map, take, filter, Option, Some, None, is_some, nat_eq, eqb-true, option_to_list, Contains, Vec}
 use Rattle.std.proofs.Math.Path.{fun_ext}
-use Rattle.std.specs.List.{AllByRecursion, IsDistinct}
+use Rattle.std.specs.List.{AllByRecursion}
 use Rattle.std.specs.Vec.{vec_capacity}
 use Rattle.std.specs.declared.alloc.Global.{Global}
 use Rattle.hk_chain.specs.declared.page.Page.{Page}
@@ -18,13 +18,13 @@ use Rattle.hk_fix.proofs.Steps.{contains-in, in-contains}
 use Rattle.hk_rules.specs.Plan.{lookups}
 use Rattle.hk_rules.specs.PlanView.{PlanView}
 use Rattle.hk_machine.specs.Chain.{chain_task}
-use Rattle.hk_machine.specs.Keeping.{Keeps, HasRoom}
+use Rattle.hk_machine.specs.Keeping.{Keeps, HasRoom, HasCome}
 use Rattle.hk_machine.specs.Machine.{plan_run, view_of, meaning_of}
-use Rattle.hk_machine.specs.Told.{ToldView, told_pages, is_listed}
+use Rattle.hk_eval.specs.Told.{ToldView, told_pages, is_listed}
 use Rattle.hk_machine.specs.Working.{left}
 use Rattle.hk_machine.specs.declared.way.Way.{Way}
 use Rattle.hk_machine.proofs.Coming.{came-run, came-answered}
-use Rattle.hk_machine.proofs.Running.{saves-append}
+use Rattle.hk_eval.proofs.Running.{saves-append}
 
 abbrev pair_of : Save → ℕ
 pair_of s = s.pair
@@ -50,37 +50,36 @@ module _ (plan : PlanView) (item : ℕ) where
   T = chain_task (lookups plan) item
 
   -- the pairs that were given before the last poll
-  given-pairs : (way : Way) (keeps : Keeps (lookups plan) item way) → map pair_of (take (way.given - cond (is_some way.last) 1 0) (saves_of (run (chain_task (lookups plan) item) (told_pages way.told)).log)) ≡ keeps.came.past
-  given-pairs way keeps =
+  given-pairs : (way : Way) (has : HasCome (lookups plan) item way) → map pair_of (take (way.given - cond (is_some way.last) 1 0) (saves_of (run (chain_task (lookups plan) item) (told_pages way.told)).log)) ≡ has.came.past
+  given-pairs way has =
       let k : Pages = told_pages way.told in
-      let came = keeps.came in
-      let all : saves_of (run T k).log ≡ saves_of came.log ++ saves_of (run (left (lookups plan) item way.work) k).log = ap (λ (r : Run Page). saves_of r.log) (came-run T k (left (lookups plan) item way.work) keeps.facts way.given way.last way.used.items came) ∙ saves-append came.log (run (left (lookups plan) item way.work) k).log in
+      let came = has.came in
+      let all : saves_of (run T k).log ≡ saves_of came.log ++ saves_of (run has.rest k).log = ap (λ (r : Run Page). saves_of r.log) (came-run T k has.rest has.facts way.given way.last way.used.items came) ∙ saves-append came.log (run has.rest k).log in
       let count : way.given ≡ length came.past + length (option_to_list way.last) = came.count ∙ (sym (length-map-pairs (saves_of came.log)) ∙ (ap length came.saves ∙ length-append came.past (option_to_list way.last))) in
       let few : way.given - cond (is_some way.last) 1 0 ≡ length came.past = ap (λ n. n - cond (is_some way.last) 1 0) count ∙ less-one way.last (length came.past) in
-      ap (λ l. map pair_of (take (way.given - cond (is_some way.last) 1 0) l)) all ∙ (ap (λ n. map pair_of (take n (saves_of came.log ++ saves_of (run (left (lookups plan) item way.work) k).log))) few ∙ first-pairs (saves_of came.log) (saves_of (run (left (lookups plan) item way.work) k).log) came.past (option_to_list way.last) came.saves)
+      ap (λ l. map pair_of (take (way.given - cond (is_some way.last) 1 0) l)) all ∙ (ap (λ n. map pair_of (take n (saves_of came.log ++ saves_of (run has.rest k).log))) few ∙ first-pairs (saves_of came.log) (saves_of (run has.rest k).log) came.past (option_to_list way.last) came.saves)
 
-  pub used-lists : (way : Way) (spent : Bool) → (spent ≡ false → Keeps (lookups plan) item way) → Lists plan_run (meaning_of (view_of plan item way spent)) way.used.items
-  used-lists way spent kept e p =
-      let keeps = kept e in
-      let past : List ℕ = keeps.came.past in
-      let same : map pair_of (take (way.given - cond (not spent && is_some way.last) 1 0) (saves_of (run T (told_pages way.told)).log)) ≡ past = ap (λ b. map pair_of (take (way.given - cond (not b && is_some way.last) 1 0) (saves_of (run T (told_pages way.told)).log))) e ∙ given-pairs way keeps in (
-        λ c. elim (or_cases (is_some (told_pages way.told p)) (is_in past p) (sym (keeps.came.used p) ∙ contains-in way.used.items p c)) [
+  pub used-lists : (way : Way) (spent : Bool) → HasCome (lookups plan) item way → Lists plan_run (meaning_of (view_of plan item way spent)) way.used.items
+  used-lists way spent has p =
+      let past : List ℕ = has.came.past in
+      let same : map pair_of (take (way.given - cond (is_some way.last) 1 0) (saves_of (run T (told_pages way.told)).log)) ≡ past = given-pairs way has in (
+        λ c. elim (or_cases (is_some (told_pages way.told p)) (is_in past p) (sym (has.came.used p) ∙ contains-in way.used.items p c)) [
           | inl t ↦ inl t
           | inr t ↦ inr (subst (λ (l : List ℕ). Contains l p) (sym same) (in-contains past p t))
         ],
-        λ d. in-contains way.used.items p (keeps.came.used p ∙ elim d [
+        λ d. in-contains way.used.items p (has.came.used p ∙ elim d [
           | inl t ↦ or_left (is_some (told_pages way.told p)) (is_in past p) t
           | inr t ↦ or_right (is_some (told_pages way.told p)) (is_in past p) (contains-in past p (subst (λ (l : List ℕ). Contains l p) same t))
         ]),
       )
 
   -- a page is answered
-  module _ (way : Way) (pair : ℕ) (page : Page) (told : ToldView) (awaits used : Vec PairNo Global) (room : HasRoom way) (open_ : Contains way.awaits.items pair) (pages : (q : ℕ) → told_pages told q ≡ tell (told_pages way.told) pair page q) (listed : (q : ℕ) → is_listed way.told q ≡ true → is_listed told q ≡ true) (out : awaits.items ≡ filter (λ q. not (nat_eq pair q)) way.awaits.items) (put : used.items ≡ way.used.items ++ pair ∷ []) where
+  module _ (way : Way) (pair : ℕ) (page : Page) (told : ToldView) (awaits : List ℕ) (used : Vec PairNo Global) (room : HasRoom way) (open_ : Contains way.awaits pair) (pages : (q : ℕ) → told_pages told q ≡ tell (told_pages way.told) pair page q) (listed : (q : ℕ) → is_listed way.told q ≡ true → is_listed told q ≡ true) (out : awaits ≡ filter (λ q. not (nat_eq pair q)) way.awaits) (put : used.items ≡ way.used.items ++ pair ∷ []) where
     abbrev answered_way : Way
     answered_way = record { work = way.work; told = told; awaits = awaits; given = way.given; last = way.last; used = used; is_ended = way.is_ended }
 
     untold : told_pages way.told pair ≡ None
-    untold = at way.awaits.items room.untold (contains-in way.awaits.items pair open_)
+    untold = at way.awaits room.untold (contains-in way.awaits pair open_)
       where
         at : (ps : List ℕ) → AllByRecursion (λ p. told_pages way.told p ≡ None) ps → is_in ps pair ≡ true → told_pages way.told pair ≡ None
         at [] h e = cc
@@ -89,19 +88,26 @@ module _ (plan : PlanView) (item : ℕ) where
           | inr t ↦ at ps h.1 t
         ]
 
-    pub answer-keeps : Keeps (lookups plan) item way → Keeps (lookups plan) item answered_way
+    pub answer-keeps : Keeps plan item way → Keeps plan item answered_way
     answer-keeps keeps =
         record {
-          facts = keeps.facts;
-          came = came-answered T (told_pages way.told) (told_pages told) (left (lookups plan) item way.work) keeps.facts way.given way.last way.used.items used.items pair page untold pages put keeps.came;
-          notes = keeps.notes;
+          came = came-answered T (told_pages way.told) (told_pages told) (left (lookups plan) item way.work) way.work.notes way.given way.last way.used.items used.items pair page untold pages put keeps.came;
+          within = keeps.within;
           bound = keeps.bound;
+        }
+
+    pub answer-come : HasCome (lookups plan) item way → HasCome (lookups plan) item answered_way
+    answer-come has =
+        record {
+          rest = has.rest;
+          facts = has.facts;
+          came = came-answered T (told_pages way.told) (told_pages told) has.rest has.facts way.given way.last way.used.items used.items pair page untold pages put has.came;
         }
 
     pub answer-meaning : (spent : Bool) → meaning_of (view_of plan item answered_way spent) ≡ told_page (meaning_of (view_of plan item way spent)) pair page
     answer-meaning spent =
         let f : told_pages told ≡ tell (told_pages way.told) pair page = fun_ext pages in
-        λ i. record { common = plan; item = item; told = f i; given = way.given; awaits = out i; has_ended = way.is_ended; just_saved = not spent && is_some way.last; is_spent = spent }
+        λ i. record { common = plan; item = item; told = f i; given = way.given; awaits = out i; has_ended = way.is_ended; just_saved = is_some way.last; is_spent = spent }
 
     abbrev others : List ℕ → List ℕ
     others ps = filter (λ q. not (nat_eq pair q)) ps
@@ -114,15 +120,6 @@ module _ (plan : PlanView) (item : ℕ) where
           | true ↦ λ e. each-other Q R f ps h.1
           | false ↦ λ e. (f p e h.0, each-other Q R f ps h.1)
         ] refl
-
-    others-distinct : (ps : List ℕ) → IsDistinct nat_eq ps → IsDistinct nat_eq (filter (λ q. not (nat_eq pair q)) ps)
-    unfolding IsDistinct
-    others-distinct [] d = tt
-    others-distinct (p ∷ ps) d =
-        elim (nat_eq pair p) as (λ b. IsDistinct nat_eq (cond (not b) (p ∷ others ps) (others ps))) [
-          | true ↦ others-distinct ps d.1
-          | false ↦ (each-other (λ q. nat_eq p q ≡ false) (λ q. nat_eq p q ≡ false) (λ q e h. h) ps d.0, others-distinct ps d.1)
-        ]
 
     no-more : (ps : List ℕ) → length (filter (λ q. not (nat_eq pair q)) ps) ≤ length ps
     no-more [] = omega arith
@@ -139,11 +136,10 @@ module _ (plan : PlanView) (item : ℕ) where
     pub answer-room : vec_capacity way.used ≤ vec_capacity used → HasRoom answered_way
     answer-room more =
         record {
-          listed = subst (AllByRecursion (λ q. is_listed told q ≡ true)) (sym out) (each-other (λ q. is_listed way.told q ≡ true) (λ q. is_listed told q ≡ true) (λ q e h. listed q h) way.awaits.items room.listed);
-          untold = subst (AllByRecursion (λ q. told_pages told q ≡ None)) (sym out) (each-other (λ q. told_pages way.told q ≡ None) (λ q. told_pages told q ≡ None) (λ q e h. pages q ∙ (ap (λ b. cond b (Some page) (told_pages way.told q)) e ∙ h)) way.awaits.items room.untold);
-          distinct = subst (IsDistinct nat_eq) (sym out) (others-distinct way.awaits.items room.distinct);
+          listed = subst (AllByRecursion (λ q. is_listed told q ≡ true)) (sym out) (each-other (λ q. is_listed way.told q ≡ true) (λ q. is_listed told q ≡ true) (λ q e h. listed q h) way.awaits room.listed);
+          untold = subst (AllByRecursion (λ q. told_pages told q ≡ None)) (sym out) (each-other (λ q. told_pages way.told q ≡ None) (λ q. told_pages told q ≡ None) (λ q e h. pages q ∙ (ap (λ b. cond b (Some page) (told_pages way.told q)) e ∙ h)) way.awaits room.untold);
           room = λ some.
-              let less : length (others way.awaits.items) + 1 ≤ length way.awaits.items = one-less way.awaits.items (contains-in way.awaits.items pair open_) in
-              let fits : length way.used.items + length way.awaits.items ≤ vec_capacity way.used = room.room (omega arith) in
+              let less : length (others way.awaits) + 1 ≤ length way.awaits = one-less way.awaits (contains-in way.awaits pair open_) in
+              let fits : length way.used.items + length way.awaits ≤ vec_capacity way.used = room.room (omega arith) in
               omega (arith, ap length out, ap length put, length-append way.used.items (pair ∷ []));
         }

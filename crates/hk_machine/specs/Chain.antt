@@ -1,5 +1,5 @@
 -- The run of an item's chain: each step makes a page of the current one.
-use Rattle.std.specs.Prelude.{ℕ, Bool, true, false, List, [], ◌∷◌, Option, Some, None, drop}
+use Rattle.std.specs.Prelude.{ℕ, List, [], ◌∷◌, Option, Some, None, drop}
 use Rattle.std.specs.List.{flat_map}
 use Rattle.std.specs.Option.{unwrap_or}
 use Rattle.hk_base.specs.Bytes.{Bytes}
@@ -16,7 +16,8 @@ use Rattle.hk_rules.specs.Plan.{Lookups}
 use Rattle.hk_template.specs.Fault.{first_fault}
 use Rattle.hk_template.specs.Place.{fault_place}
 use Rattle.hk_template.specs.declared.fault.TemplateFault.{TemplateFault}
-use Rattle.hk_machine.specs.Asking.{text_page, no_bytes, ask, ask_all, is_text, need_text}
+use Rattle.hk_eval.specs.Asking.{text_page, no_bytes, ask_all, ask_text, need_text, other_kind}
+use Rattle.hk_machine.specs.Applying.{apply_task, self_task}
 
 -- what an item's file holds; an item that is created has none, and no rule gives it a step that reads one
 abbrev pub file_of : Lookups → ℕ → Bytes
@@ -32,16 +33,6 @@ template_by body (Some fault) = fails (BadTemplate (fault_place fault))
 -- a text that must be a template
 abbrev pub template_of : Bytes → Task Page
 template_of body = template_by body (first_fault body)
-
-abbrev pub other_by : ℕ → Bool → Option ℕ → Option ℕ
-other_by item true rest = rest
-other_by item false rest = Some item
-
--- the first of these items whose page isn't text
-abbrev pub other_kind : List ℕ → List Page → Option ℕ
-other_kind [] pages = None
-other_kind (item ∷ items) [] = None
-other_kind (item ∷ items) (page ∷ pages) = other_by item (is_text page.kind) (other_kind items pages)
 
 abbrev pub joined_by : Lookups → List Page → Option ℕ → Task Page
 joined_by plan pages None = gives (text_page (flat_map (λ page. page.body) pages))
@@ -63,17 +54,17 @@ abbrev pub relative_page : Page → Option Bytes → Page
 relative_page page None = page
 relative_page page (Some target) = text_page (with_roots (root_of target) page.body)
 
--- what a step of an item's chain makes of the current page; no plan has a step that renders yet
+-- what a step of an item's chain makes of the current page
 abbrev pub step_task : Lookups → ℕ → Step → Page → Task Page
 step_task plan item Body page = gives (text_page (body_of plan item))
 step_task plan item Str page = gives (text_page (file_of plan item))
 step_task plan item Copy page = gives (record { kind = kinds.File; body = file_of plan item })
 step_task plan item TemplateBody page = template_of (body_of plan item)
 step_task plan item (Make text) page = gives (text_page text)
-step_task plan item (Load id name) page = ask plan id name ▷ need_text id
+step_task plan item (Load id name) page = ask_text plan id name
 step_task plan item (Concat pattern) page = notes (used pattern) (concat_task plan (plan.matches pattern))
-step_task plan item (Apply id context) page = gives page
-step_task plan item (SelfApply context) page = gives page
+step_task plan item (Apply id context) page = apply_task plan item id context page
+step_task plan item (SelfApply context) page = self_task plan item context page
 step_task plan item (Save name) page = save_task page (plan.pair item name)
 step_task plan item Relativize page = need_text (plan.id item) page ▷ (λ text. gives (relative_page text (plan.target_of item)))
 

@@ -1,92 +1,61 @@
 -- The chains of a plan keep the laws of a family of compilers.
-use Rattle.std.proofs.Common.{◌≡◌, refl, sym, ap, ◌∙◌, subst, arith, ℕ, ◌<◌, List, [], ◌∷◌, Option, Some, None, Result, Ok, Err, Bool, true, false, nat_eq, eqb-true, eq-eqb}
+use Rattle.std.proofs.Common.{◌≡◌, refl, sym, ap, ◌∙◌, subst, arith, ℕ, ◌<◌, List, [], ◌∷◌, Option, Some, None, Ok, true, false, nat_eq, eqb-true, eq-eqb}
 use Rattle.std.specs.List.{AllByRecursion, IsDistinct, cons_option}
 use Rattle.hk_base.specs.Bytes.{Bytes}
 use Rattle.hk_base.specs.Identifier.{Ident}
 use Rattle.hk_chain.specs.Layout.{pairs, item_of}
 use Rattle.hk_chain.specs.declared.page.Page.{Page}
-use Rattle.hk_chain.specs.declared.fault.Fault.{Fault}
 use Rattle.hk_chain.specs.declared.chain.Step.{Step}
 use Rattle.hk_chain.specs.declared.chain.Step.TheVariants.{Body, Str, Copy, TemplateBody, Make, Load, Concat, Apply, SelfApply, Save, Relativize}
 use Rattle.hk_template.specs.Fault.{first_fault}
+use Rattle.hk_template.specs.Growing.{read_tree}
+use Rattle.hk_template.specs.Tree.{Nodes}
 use Rattle.hk_template.specs.declared.fault.TemplateFault.{TemplateFault}
 use Rattle.hk_rules.specs.Pairs.{final_name}
 use Rattle.hk_rules.specs.Plan.{Lookups}
-use Rattle.hk_fix.specs.Task.{Task, gives, fails, asks, notes, used, saved, ◌▷◌, run}
+use Rattle.hk_fix.specs.Task.{Task, gives, ◌▷◌, run}
 use Rattle.hk_fix.specs.Run.{IsRun}
 use Rattle.hk_fix.specs.Chains.{AllGroups, Saves, AreChains}
 use Rattle.hk_fix.specs.ChainLaws.{chains-run}
-use Rattle.hk_machine.specs.Asking.{no_bytes, ask_pair, ask_item, ask, with_pair, pairs_of, ask_group, ask_found, ask_all, is_text, text_if, need_text}
-use Rattle.hk_machine.specs.Chain.{body_of, template_by, template_of, other_kind, joined_by, joined, concat_task, save_task, relative_page, step_task, steps_task, chain_task}
+use Rattle.hk_eval.specs.Asking.{no_bytes, pairs_of, ask_all, ask_text, is_text, need_text, other_kind}
+use Rattle.hk_eval.specs.Laws.{groups-bind, quiet-bind, saves-bind, quiet-text, quiet-all, quiet-load, quiet-tree, quiet-template as quiet-template-of, quiet-render, groups-text, groups-load, groups-all, groups-tree, groups-template as groups-template-of, groups-render}
+use Rattle.hk_eval.specs.Quiet.{Quiet}
+use Rattle.hk_eval.specs.Rendering.{render}
+use Rattle.hk_eval.specs.Templates.{tree_task, template_task}
+use Rattle.hk_eval.specs.declared.place.Place.{Place}
+use Rattle.hk_eval.proofs.Grouping.{with-ok}
+use Rattle.hk_machine.specs.Applying.{page_with, rendered_task, apply_task, self_task}
+use Rattle.hk_machine.specs.Chain.{body_of, template_by, template_of, joined_by, joined, concat_task, save_task, relative_page, step_task, steps_task, chain_task}
 use Rattle.hk_machine.specs.Runnable.{own_pairs, IsRunnable}
 
--- a task that saves nothing
-abbrev pub Quiet : {A : Type 0} → Task A → Type 0
-Quiet (gives x) = Unit {0}
-Quiet (fails e) = Unit {0}
-Quiet (asks ps f) = (xs : List Page) → Quiet (f xs)
-Quiet (notes (used n) t) = Quiet t
-Quiet (notes (saved p x) t) = ⊥
-
-module _ {A B : Type 0} (f : A → Task B) where
-  pub groups-bind : (P : List ℕ → Type 0) (t : Task A) → AllGroups P t → ((x : A) → AllGroups P (f x)) → AllGroups P (t ▷ f)
-  groups-bind P (gives x) g h = h x
-  groups-bind P (fails e) g h = tt
-  groups-bind P (asks ps k) g h = (g.0, λ xs. groups-bind P (k xs) (g.1 xs) h)
-  groups-bind P (notes n t) g h = groups-bind P t g h
-
-  pub quiet-bind : (t : Task A) → Quiet t → ((x : A) → Quiet (f x)) → Quiet (t ▷ f)
-  quiet-bind (gives x) q h = h x
-  quiet-bind (fails e) q h = tt
-  quiet-bind (asks ps k) q h = λ xs. quiet-bind (k xs) (q xs) h
-  quiet-bind (notes (used n) t) q h = quiet-bind t q h
-  quiet-bind (notes (saved p x) t) q h = absurd q
-
-  pub saves-bind : (ps : List ℕ) (t : Task A) → Quiet t → ((x : A) → Saves ps (f x)) → Saves ps (t ▷ f)
-  saves-bind ps (gives x) q h = h x
-  saves-bind ps (fails e) q h = tt
-  saves-bind ps (asks qs k) q h = λ xs. saves-bind ps (k xs) (q xs) h
-  saves-bind ps (notes (used n) t) q h = saves-bind ps t q h
-  saves-bind ps (notes (saved p x) t) q h = absurd q
-
 -- what saves nothing
-
-pub quiet-text : (id : Ident) (page : Page) (b : Bool) → Quiet (text_if id page b)
-quiet-text id page true = tt
-quiet-text id page false = tt
 
 pub quiet-template : (body : Bytes) (o : Option TemplateFault) → Quiet (template_by body o)
 quiet-template body None = tt
 quiet-template body (Some fault) = tt
 
-quiet-pair : (fault : Fault) (o : Option ℕ) → Quiet (ask_pair fault o)
-quiet-pair fault None = tt
-quiet-pair fault (Some pair) = λ xs. tt
-
-quiet-item : (plan : Lookups) (id : Ident) (name : Bytes) (o : Option ℕ) → Quiet (ask_item plan id name o)
-quiet-item plan id name None = tt
-quiet-item plan id name (Some item) = quiet-pair _ (plan.pair item name)
-
-pub quiet-group : (ps : List ℕ) → Quiet (ask_group ps)
-quiet-group [] = tt
-quiet-group (p ∷ ps) = λ xs. tt
-
-quiet-found : (plan : Lookups) (name : Bytes) (r : Result (List ℕ) ℕ) → Quiet (ask_found plan name r)
-quiet-found plan name (Ok ps) = quiet-group ps
-quiet-found plan name (Err item) = tt
-
 pub quiet-joined : (plan : Lookups) (pages : List Page) (o : Option ℕ) → Quiet (joined_by plan pages o)
 quiet-joined plan pages None = tt
 quiet-joined plan pages (Some item) = tt
 
-pub quiet-load : (plan : Lookups) (id : Ident) (name : Bytes) → Quiet (ask plan id name ▷ need_text id)
-quiet-load plan id name = quiet-bind (need_text id) (ask plan id name) (quiet-item plan id name (plan.find id)) (λ x. quiet-text id x (is_text x.kind))
-
 pub quiet-concat : (plan : Lookups) (items : List ℕ) → Quiet (concat_task plan items)
-quiet-concat plan items = quiet-bind (joined plan items) (ask_all plan final_name items) (quiet-found plan final_name (pairs_of plan final_name items)) (λ xs. quiet-joined plan xs (other_kind items xs))
+quiet-concat plan items = quiet-bind (joined plan items) (ask_all plan final_name items) (quiet-all plan final_name items) (λ xs. quiet-joined plan xs (other_kind items xs))
 
 pub quiet-relative : (id : Ident) (page : Page) (target : Option Bytes) → Quiet (need_text id page ▷ (λ text. gives (relative_page text target)))
 quiet-relative id page target = quiet-bind (λ text. gives (relative_page text target)) (need_text id page) (quiet-text id page (is_text page.kind)) (λ x. tt)
+
+pub quiet-rendered : (plan : Lookups) (item context : ℕ) (page : Page) (tree : Nodes) → Quiet (rendered_task plan item context page tree)
+quiet-rendered plan item context page tree = quiet-bind page_with (render plan tree (record { item = item; page = page; context = context })) (quiet-render plan tree (record { item = item; page = page; context = context })) (λ x. tt)
+
+pub quiet-apply : (plan : Lookups) (item : ℕ) (id : Ident) (context : ℕ) (page : Page) → Quiet (apply_task plan item id context page)
+quiet-apply plan item id context page =
+    quiet-bind (λ text. template_task plan id ▷ rendered_task plan item context text) (need_text (plan.id item) page) (quiet-text (plan.id item) page (is_text page.kind))
+    (λ text. quiet-bind (rendered_task plan item context text) (template_task plan id) (quiet-template-of plan id) (quiet-rendered plan item context text))
+
+pub quiet-self : (plan : Lookups) (item context : ℕ) (page : Page) → Quiet (self_task plan item context page)
+quiet-self plan item context page =
+    quiet-bind (λ text. tree_task text.body ▷ rendered_task plan item context text) (need_text (plan.id item) page) (quiet-text (plan.id item) page (is_text page.kind))
+    (λ text. quiet-bind (rendered_task plan item context text) (tree_task text.body) (quiet-tree (read_tree text.body)) (quiet-rendered plan item context text))
 
 -- the saves of a chain
 
@@ -101,20 +70,16 @@ steps-save plan item (Str ∷ steps) page = steps-save plan item steps _
 steps-save plan item (Copy ∷ steps) page = steps-save plan item steps _
 steps-save plan item (TemplateBody ∷ steps) page = saves-bind (steps_task plan item steps) (own_pairs plan item steps) (template_of (body_of plan item)) (quiet-template (body_of plan item) (first_fault (body_of plan item))) (steps-save plan item steps)
 steps-save plan item (Make text ∷ steps) page = steps-save plan item steps _
-steps-save plan item (Load id name ∷ steps) page = saves-bind (steps_task plan item steps) (own_pairs plan item steps) (ask plan id name ▷ need_text id) (quiet-load plan id name) (steps-save plan item steps)
+steps-save plan item (Load id name ∷ steps) page = saves-bind (steps_task plan item steps) (own_pairs plan item steps) (ask_text plan id name) (quiet-load plan id name) (steps-save plan item steps)
 steps-save plan item (Concat n ∷ steps) page = saves-bind (steps_task plan item steps) (own_pairs plan item steps) (concat_task plan (plan.matches n)) (quiet-concat plan (plan.matches n)) (steps-save plan item steps)
-steps-save plan item (Apply id context ∷ steps) page = steps-save plan item steps page
-steps-save plan item (SelfApply context ∷ steps) page = steps-save plan item steps page
+steps-save plan item (Apply id context ∷ steps) page = saves-bind (steps_task plan item steps) (own_pairs plan item steps) (apply_task plan item id context page) (quiet-apply plan item id context page) (steps-save plan item steps)
+steps-save plan item (SelfApply context ∷ steps) page = saves-bind (steps_task plan item steps) (own_pairs plan item steps) (self_task plan item context page) (quiet-self plan item context page) (steps-save plan item steps)
 steps-save plan item (Save name ∷ steps) page = save-saves page (plan.pair item name) (own_pairs plan item steps) (steps_task plan item steps) (steps-save plan item steps)
 steps-save plan item (Relativize ∷ steps) page = saves-bind (steps_task plan item steps) (own_pairs plan item steps) (need_text (plan.id item) page ▷ (λ text. gives (relative_page text (plan.target_of item)))) (quiet-relative (plan.id item) page (plan.target_of item)) (steps-save plan item steps)
 
 -- its groups
 
 module _ (P : List ℕ → Type 0) where
-  groups-text : (id : Ident) (page : Page) (b : Bool) → AllGroups P (text_if id page b)
-  groups-text id page true = tt
-  groups-text id page false = tt
-
   groups-template : (body : Bytes) (o : Option TemplateFault) → AllGroups P (template_by body o)
   groups-template body None = tt
   groups-template body (Some fault) = tt
@@ -123,33 +88,29 @@ module _ (P : List ℕ → Type 0) where
   groups-joined plan pages None = tt
   groups-joined plan pages (Some item) = tt
 
-  groups-pair : (fault : Fault) (o : Option ℕ) → ((p : ℕ) → o ≡ Some p → P (p ∷ [])) → AllGroups P (ask_pair fault o)
-  groups-pair fault None h = tt
-  groups-pair fault (Some p) h = (h p refl, λ xs. tt)
-
-  groups-item : (plan : Lookups) (id : Ident) (name : Bytes) (o : Option ℕ) → ((i p : ℕ) → o ≡ Some i → plan.pair i name ≡ Some p → P (p ∷ [])) → AllGroups P (ask_item plan id name o)
-  groups-item plan id name None h = tt
-  groups-item plan id name (Some i) h = groups-pair _ (plan.pair i name) (λ p e. h i p refl e)
-
-  groups-group : (ps : List ℕ) → P ps → AllGroups P (ask_group ps)
-  groups-group [] h = tt
-  groups-group (p ∷ ps) h = (h, λ xs. tt)
-
-  groups-found : (plan : Lookups) (name : Bytes) (r : Result (List ℕ) ℕ) → ((ps : List ℕ) → r ≡ Ok ps → P ps) → AllGroups P (ask_found plan name r)
-  groups-found plan name (Ok ps) h = groups-group ps (h ps refl)
-  groups-found plan name (Err item) h = tt
-
   groups-save : (page : Page) (o : Option ℕ) → AllGroups P (save_task page o)
   groups-save page None = tt
   groups-save page (Some p) = tt
 
   -- what holds of the pair of each ask and of the pairs of each pattern's items holds of each group
-  module _ (plan : Lookups) (one : (id : Ident) (name : Bytes) (i p : ℕ) → plan.find id ≡ Some i → plan.pair i name ≡ Some p → P (p ∷ [])) (all : (n : ℕ) (ps : List ℕ) → pairs_of plan final_name (plan.matches n) ≡ Ok ps → P ps) where
-    groups-load : (id : Ident) (name : Bytes) → AllGroups P (ask plan id name ▷ need_text id)
-    groups-load id name = groups-bind (need_text id) P (ask plan id name) (groups-item plan id name (plan.find id) (one id name)) (λ x. groups-text id x (is_text x.kind))
-
+  module _ (plan : Lookups) (one : (id : Ident) (name : Bytes) (i p : ℕ) → plan.find id ≡ Some i → plan.pair i name ≡ Some p → P (p ∷ [])) (all : (n : ℕ) (name : Bytes) (ps : List ℕ) → pairs_of plan name (plan.matches n) ≡ Ok ps → P ps) where
     groups-concat : (n : ℕ) → AllGroups P (concat_task plan (plan.matches n))
-    groups-concat n = groups-bind (joined plan (plan.matches n)) P (ask_all plan final_name (plan.matches n)) (groups-found plan final_name (pairs_of plan final_name (plan.matches n)) (all n)) (λ xs. groups-joined plan xs (other_kind (plan.matches n) xs))
+    groups-concat n = groups-bind (joined plan (plan.matches n)) P (ask_all plan final_name (plan.matches n)) (groups-all P plan one all n final_name) (λ xs. groups-joined plan xs (other_kind (plan.matches n) xs))
+
+    groups-rendered : (item context : ℕ) (page : Page) (tree : Nodes) → AllGroups P (rendered_task plan item context page tree)
+    groups-rendered item context page tree =
+        let here : Place = record { item = item; page = page; context = context } in
+        groups-bind page_with P (render plan tree here) (groups-render P plan one all tree here) (λ x. tt)
+
+    groups-apply : (item : ℕ) (id : Ident) (context : ℕ) (page : Page) → AllGroups P (apply_task plan item id context page)
+    groups-apply item id context page =
+        groups-bind (λ text. template_task plan id ▷ rendered_task plan item context text) P (need_text (plan.id item) page) (groups-text P (plan.id item) page (is_text page.kind))
+        (λ text. groups-bind (rendered_task plan item context text) P (template_task plan id) (groups-template-of P plan one all id) (groups-rendered item context text))
+
+    groups-self : (item context : ℕ) (page : Page) → AllGroups P (self_task plan item context page)
+    groups-self item context page =
+        groups-bind (λ text. tree_task text.body ▷ rendered_task plan item context text) P (need_text (plan.id item) page) (groups-text P (plan.id item) page (is_text page.kind))
+        (λ text. groups-bind (rendered_task plan item context text) P (tree_task text.body) (groups-tree P (read_tree text.body)) (groups-rendered item context text))
 
     groups-step : (item : ℕ) (step : Step) (page : Page) → AllGroups P (step_task plan item step page)
     groups-step item Body page = tt
@@ -157,12 +118,12 @@ module _ (P : List ℕ → Type 0) where
     groups-step item Copy page = tt
     groups-step item TemplateBody page = groups-template (body_of plan item) (first_fault (body_of plan item))
     groups-step item (Make text) page = tt
-    groups-step item (Load id name) page = groups-load id name
+    groups-step item (Load id name) page = groups-load P plan one all id name
     groups-step item (Concat n) page = groups-concat n
-    groups-step item (Apply id context) page = tt
-    groups-step item (SelfApply context) page = tt
+    groups-step item (Apply id context) page = groups-apply item id context page
+    groups-step item (SelfApply context) page = groups-self item context page
     groups-step item (Save name) page = groups-save page (plan.pair item name)
-    groups-step item Relativize page = groups-bind (λ text. gives (relative_page text (plan.target_of item))) P (need_text (plan.id item) page) (groups-text (plan.id item) page (is_text page.kind)) (λ x. tt)
+    groups-step item Relativize page = groups-bind (λ text. gives (relative_page text (plan.target_of item))) P (need_text (plan.id item) page) (groups-text P (plan.id item) page (is_text page.kind)) (λ x. tt)
 
     pub groups-steps : (item : ℕ) (steps : List Step) (page : Page) → AllGroups P (steps_task plan item steps page)
     groups-steps item [] page = tt
@@ -170,12 +131,7 @@ module _ (P : List ℕ → Type 0) where
 
 -- the pairs of some items
 
-pub with-ok : (i : ℕ) (o : Option ℕ) (r : Result (List ℕ) ℕ) (ps : List ℕ) → with_pair i o r ≡ Ok ps → (p : ℕ) × (rest : List ℕ) × (o ≡ Some p) × (r ≡ Ok rest) × (ps ≡ p ∷ rest)
-with-ok i None r ps e = cc
-with-ok i (Some p) (Ok rest) ps e = (p, rest, refl, refl, cc)
-with-ok i (Some p) (Err other) ps e = cc
-
-module _ (plan : Lookups) (items patterns : ℕ) (fit : IsRunnable plan items patterns) where
+module _ (plan : Lookups) (items contexts patterns : ℕ) (fit : IsRunnable plan items contexts patterns) where
   pairs-within : (name : Bytes) (is ps : List ℕ) → AllByRecursion (λ i. i < items) is → pairs_of plan name is ≡ Ok ps → AllByRecursion (λ p. p < pairs plan.layout) ps
   pairs-within name [] ps h e = let q : [] ≡ ps = cc in subst (AllByRecursion (λ p. p < pairs plan.layout)) q tt
   pairs-within name (i ∷ is) ps h e =
@@ -213,14 +169,14 @@ module _ (plan : Lookups) (items patterns : ℕ) (fit : IsRunnable plan items pa
   unfolding chain_task
   distinct i lt =
       groups-steps (IsDistinct nat_eq) plan (λ id name j p f e. one-distinct p)
-      (λ n ps e. pairs-distinct final_name (plan.matches n) ps (fit.matched n) (fit.once n) e) i (plan.chain i) no_bytes
+      (λ n name ps e. pairs-distinct name (plan.matches n) ps (fit.renders.matched n) (fit.once n) e) i (plan.chain i) no_bytes
 
   within : (i : ℕ) → i < plan.layout.items → AllGroups (AllByRecursion (λ p. p < pairs plan.layout)) (chain_task plan i)
   unfolding chain_task
   within i lt =
       groups-steps (AllByRecursion (λ p. p < pairs plan.layout)) plan
-      (λ id name j p f e. ((fit.paired j name p (fit.found id j f) e).0, tt))
-      (λ n ps e. pairs-within final_name (plan.matches n) ps (fit.matched n) e) i (plan.chain i) no_bytes
+      (λ id name j p f e. ((fit.paired j name p (fit.renders.found id j f) e).0, tt))
+      (λ n name ps e. pairs-within name (plan.matches n) ps (fit.renders.matched n) e) i (plan.chain i) no_bytes
 
   saving : (i : ℕ) → i < plan.layout.items → Saves (own_pairs plan i (plan.chain i)) (chain_task plan i)
   unfolding chain_task

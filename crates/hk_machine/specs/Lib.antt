@@ -1,14 +1,13 @@
 pub mod Acting
-pub mod Asking
+pub mod Applying
 pub mod Chain
+pub mod ChainDeed
 pub mod Groups
 pub mod Keeping
 pub mod Laws
-pub mod Leading
 pub mod LinkedRuns
 pub mod Machine
-pub mod Noted
+pub mod PlanDeeds
 pub mod Runnable
 pub mod RunnableOnce
-pub mod Told
 pub mod Working

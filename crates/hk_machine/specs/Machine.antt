@@ -1,5 +1,5 @@
 -- A machine as a compiler.
-use Rattle.std.specs.Prelude.{ℕ, Bool, false, not, ◌&&◌, List, is_some}
+use Rattle.std.specs.Prelude.{ℕ, Bool, false, List, is_some}
 use Rattle.hk_chain.specs.declared.page.Page.{Page}
 use Rattle.hk_chain.specs.Layout.{Shape}
 use Rattle.hk_fix.specs.Pages.{Pages}
@@ -8,7 +8,7 @@ use Rattle.hk_fix.specs.Meaning.{Meaning}
 use Rattle.hk_rules.specs.Plan.{lookups}
 use Rattle.hk_rules.specs.PlanView.{PlanView}
 use Rattle.hk_machine.specs.Chain.{chain_task}
-use Rattle.hk_machine.specs.Told.{ToldView, told_pages}
+use Rattle.hk_eval.specs.Told.{ToldView, told_pages}
 use Rattle.hk_machine.specs.declared.way.Way.{Way}
 
 abbrev pub plan_shape : PlanView → Shape
@@ -36,9 +36,9 @@ view_of plan item way spent =
       item = item;
       told = way.told;
       given = way.given;
-      awaits = way.awaits.items;
+      awaits = way.awaits;
       has_ended = way.is_ended;
-      just_saved = not spent && is_some way.last;
+      just_saved = is_some way.last;
       is_spent = spent;
     }
 

@@ -1,26 +1,25 @@
 // A machine is a compiler.
-ghost use Rattle.std.specs.Prelude.{◌≡◌, ◌<◌, ◌≤◌, ◌++◌, ◌∷◌, [], not, nat_eq, filter, length, slice_index, Contains};
+ghost use Rattle.std.specs.Prelude.{◌≡◌, ◌<◌, ◌≤◌, ◌++◌, ◌∷◌, [], length};
 ghost use Rattle.std.specs.Vec.{vec_capacity};
-ghost use Rattle.std.specs.List.{IsDistinct};
 
 use crate::going::go;
 use crate::machine::Machine;
-use hk_base::NoMemory;
+use hk_base::{NoMemory, Shared};
 use hk_chain::{ItemNo, PageRef, PairNo};
 use hk_fix::{Compiler, Polled};
-use hk_rules::{Plan, Shared};
+use hk_rules::Plan;
 use std::alloc::Global;
 
 impl Compiler for Machine {
     ghost use Rattle.std.specs.Prelude.{length};
     ghost use Rattle.hk_rules.specs.Plan.{lookups};
-    ghost use Rattle.hk_machine.specs.Runnable.{IsRunnable};
+    ghost use Rattle.hk_machine.specs.Runnable.{Runs};
     ghost use Rattle.hk_machine.specs.Machine.{plan_shape, plan_run, meaning_of};
     ghost use Rattle.hk_machine.specs.Laws.{runs-are};
 
     type Common = Shared<Plan>;
 
-    ghost valid = { λ c. IsRunnable (lookups c) (length c.items) (length c.patterns) };
+    ghost valid = { Runs };
 
     ghost shape = { plan_shape };
 
@@ -50,14 +49,14 @@ impl Compiler for Machine {
     }
 
     fn answer(&mut self, pair: PairNo, page: PageRef) {
-        take_out(&mut self.way.awaits, pair);
+        self.way.awaits.take_out(pair);
         use_pair(&mut self.way.used, pair);
         self.way.told.answer(pair, page);
     }
 
     fn into_open(self) -> Vec<PairNo> {
         let way = self.way;
-        way.awaits
+        way.awaits.into_vec()
     }
 
     fn used(&self) -> &[PairNo] {
@@ -66,31 +65,7 @@ impl Compiler for Machine {
 
     ghost shaped = { λ c valid. valid.shape };
 
-    ghost laws = { λ c valid. runs-are (lookups c) (length c.items) (length c.patterns) valid };
-}
-
-/// Takes a member out of a list without repeats.
-fn take_out(pairs: &mut Vec<PairNo>, pair: PairNo)
-    requires has { Contains pairs.old.items pair }
-    requires distinct { IsDistinct nat_eq pairs.old.items }
-    ensures { pairs.new.items ≡ filter (λ q. not (nat_eq pair q)) pairs.old.items }
-{
-    let place = place_of(pairs.as_slice(), pair);
-    pairs.remove(place);
-}
-
-/// The first place of a member.
-fn place_of(pairs: &[PairNo], pair: PairNo) -> usize
-    requires { Contains pairs.now pair }
-    ensures within { result < length pairs.now }
-    ensures found { slice_index pairs.now result ≡ pair }
-{
-    for i in 0..pairs.len() {
-        if pairs[i] == pair {
-            return i;
-        }
-    }
-    unreachable!()
+    ghost laws = { λ c valid. runs-are (lookups c) (length c.items) (length c.contexts) (length c.patterns) valid };
 }
 
 /// One more pair, for which there is room.

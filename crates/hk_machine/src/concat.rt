@@ -4,18 +4,19 @@ ghost use Rattle.std.specs.List.{AllByRecursion};
 ghost use Rattle.hk_chain.specs.declared.page.Page.{Page as PageView};
 ghost use Rattle.hk_fix.specs.Task.{notes as noting, used, ◌▷◌};
 ghost use Rattle.hk_rules.specs.Plan.{lookups};
-ghost use Rattle.hk_machine.specs.Acting.{Acts};
-ghost use Rattle.hk_machine.specs.Asking.{text_page, ask_group};
+ghost use Rattle.hk_rules.specs.PlanView.{PlanView};
+ghost use Rattle.hk_machine.specs.Acting.{Acts, IsActOf};
+ghost use Rattle.hk_eval.specs.Asking.{ask_group};
 ghost use Rattle.hk_machine.specs.Chain.{concat_task, joined};
-ghost use Rattle.hk_machine.specs.Runnable.{IsRunnable};
-ghost use Rattle.hk_machine.specs.Told.{told_pages};
+ghost use Rattle.hk_machine.specs.Runnable.{Runs};
+ghost use Rattle.hk_eval.specs.Told.{told_pages};
 
 use crate::act::Act;
-use crate::group::{Group, Joined, join, lacking, pairs_of};
-use crate::notes::Notes;
-use crate::told::Told;
+use crate::joins::{Joined, join};
+use crate::making::text_of;
 use hk_base::{NoMemory, Text};
-use hk_chain::{Fault, ItemNo, Kind, Page, PageRef, PairNo, PatternNo};
+use hk_chain::{Fault, ItemNo, PairNo, PatternNo};
+use hk_eval::{Group, Notes, Told, lacking, pairs_of};
 use hk_rules::Plan;
 use std::alloc::Global;
 
@@ -27,12 +28,13 @@ pub(crate) fn concat(
     told: &Told,
     notes: &mut Notes,
 ) -> Result<Act, NoMemory>
-    requires plan { IsRunnable (lookups plan.now) (length plan.now.items) (length plan.now.patterns) }
+    requires plan { Runs plan.now }
     requires pattern { pattern < length plan.now.patterns }
-    ensures { IfOk result (λ a. (page : PageView) → Acts (told_pages told.now) (noting (used pattern) (concat_task (lookups plan.now) ((lookups plan.now).matches pattern))) page notes.old a notes.new) }
+    ensures acts { IfOk result (λ a. (page : PageView) → Acts (lookups plan.now) (told_pages told.now) (noting (used pattern) (concat_task (lookups plan.now) ((lookups plan.now).matches pattern))) page notes.old a notes.new) }
+    ensures within { IfOk result (λ a. (own : PlanView) → IsActOf own a) }
 {
     let items = plan.matches(alloc, pattern)?;
-    match pairs_of(alloc, plan, &items)? {
+    match pairs_of(alloc, plan, &items, b"_final")? {
         Group::Pairs(pairs) => all_of(alloc, plan, pattern, &items, &pairs, told, notes),
         Group::Lacks(item) => Ok(Act::Fails(Fault::NoSnapshot {
             id: plan.id(item).copy(alloc)?,
@@ -53,7 +55,8 @@ fn all_of(
 ) -> Result<Act, NoMemory>
     requires same { length items.now ≡ length pairs.now }
     requires items { AllByRecursion (λ i. i < length plan.now.items) items.now }
-    ensures { IfOk result (λ a. (page : PageView) → Acts (told_pages told.now) (noting (used pattern) (ask_group pairs.now ▷ joined (lookups plan.now) items.now)) page notes.old a notes.new) }
+    ensures acts { IfOk result (λ a. (page : PageView) → Acts (lookups plan.now) (told_pages told.now) (noting (used pattern) (ask_group pairs.now ▷ joined (lookups plan.now) items.now)) page notes.old a notes.new) }
+    ensures within { IfOk result (λ a. (own : PlanView) → IsActOf own a) }
 {
     let lacks = lacking(alloc, told, pairs)?;
     if !lacks.is_empty() {
@@ -63,20 +66,11 @@ fn all_of(
         Joined::Bodies(bytes) => {
             notes.note_pattern(pattern)?;
             notes.note_group(alloc, pairs)?;
-            Ok(Act::Gives(text_of(alloc, bytes)?))
+            let text = Text::from_vec(bytes);
+            Ok(Act::Gives(text_of(alloc, text)?))
         }
         Joined::Other(item) => Ok(Act::Fails(Fault::WrongKind {
             id: plan.id(item).copy(alloc)?,
         })),
     }
-}
-
-fn text_of(alloc: Global, bytes: Vec<u8>) -> Result<PageRef, NoMemory>
-    ensures { IfOk result (λ p. p ≡ text_page bytes.items) }
-{
-    let page = Page {
-        kind: Kind::Text,
-        body: Text::from_vec(bytes),
-    };
-    PageRef::new(alloc, page)
 }

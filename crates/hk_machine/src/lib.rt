@@ -5,19 +5,17 @@ mod act;
 mod compiling;
 mod concat;
 mod going;
-mod group;
+mod joins;
 mod loading;
 mod machine;
 mod maker;
 mod making;
-mod notes;
-mod seen;
+mod named;
+mod rendering;
 mod step;
-#[cfg(test)]
-mod tests;
-mod told;
 mod way;
 mod work;
 
 pub use machine::Machine;
 pub use maker::PlanMaker;
+pub use named::{chains_are_deeds, renderings_of_pages_are_deeds};

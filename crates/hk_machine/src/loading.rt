@@ -1,27 +1,20 @@
 // The step that loads one page.
-ghost use Rattle.std.specs.Prelude.{◌≡◌, ◌∷◌, [], length, IfOk};
+ghost use Rattle.std.specs.Prelude.{◌≡◌, ◌∷◌, [], IfOk};
 ghost use Rattle.hk_chain.specs.declared.page.Page.{Page as PageView};
 ghost use Rattle.hk_fix.specs.Task.{◌▷◌};
-ghost use Rattle.hk_rules.specs.Plan.{lookups};
-ghost use Rattle.hk_machine.specs.Acting.{Acts};
-ghost use Rattle.hk_machine.specs.Asking.{ask, ask_pair, is_text, need_text};
-ghost use Rattle.hk_machine.specs.Runnable.{IsRunnable};
-ghost use Rattle.hk_machine.specs.Told.{told_pages};
+ghost use Rattle.hk_rules.specs.Plan.{Lookups, lookups};
+ghost use Rattle.hk_rules.specs.PlanView.{PlanView};
+ghost use Rattle.hk_machine.specs.Acting.{Acts, IsActOf};
+ghost use Rattle.hk_eval.specs.Asking.{ask, ask_pair, need_text};
+ghost use Rattle.hk_machine.specs.Runnable.{Runs};
+ghost use Rattle.hk_eval.specs.Told.{told_pages};
 
 use crate::act::Act;
-use crate::notes::Notes;
-use crate::told::Told;
 use hk_base::{Identifier, NoMemory, Text};
-use hk_chain::{Fault, Kind, Page, PairNo};
+use hk_chain::{Fault, PairNo};
+use hk_eval::{Notes, Told, is_text};
 use hk_rules::Plan;
 use std::alloc::Global;
-
-/// Whether a page is text. Constant.
-pub(crate) fn is_text(page: &Page) -> bool
-    ensures { result ≡ is_text page.now.kind }
-{
-    matches!(page.kind, Kind::Text)
-}
 
 /// The page that the item with this identifier saves under a name. Logarithmic, and linear in that item's chain.
 pub(crate) fn load(
@@ -32,8 +25,9 @@ pub(crate) fn load(
     told: &Told,
     notes: &mut Notes,
 ) -> Result<Act, NoMemory>
-    requires { IsRunnable (lookups plan.now) (length plan.now.items) (length plan.now.patterns) }
-    ensures { IfOk result (λ a. (page : PageView) → Acts (told_pages told.now) (ask (lookups plan.now) id.now name.now ▷ need_text id.now) page notes.old a notes.new) }
+    requires { Runs plan.now }
+    ensures acts { IfOk result (λ a. (page : PageView) → Acts (lookups plan.now) (told_pages told.now) (ask (lookups plan.now) id.now name.now ▷ need_text id.now) page notes.old a notes.new) }
+    ensures within { IfOk result (λ a. (own : PlanView) → IsActOf own a) }
 {
     let Some(item) = plan.find(id) else {
         return Ok(Act::Fails(Fault::Missing {
@@ -41,7 +35,10 @@ pub(crate) fn load(
         }));
     };
     match plan.pair(item, name) {
-        Some(pair) => loaded(alloc, id, name, pair, told, notes),
+        Some(pair) => {
+            let act = loaded(alloc, id, name, pair, told, notes)?;
+            Ok(act)
+        }
         None => Ok(Act::Fails(Fault::NoSnapshot {
             id: id.copy(alloc)?,
             name: Text::from_slice(alloc, name)?,
@@ -57,7 +54,8 @@ fn loaded(
     told: &Told,
     notes: &mut Notes,
 ) -> Result<Act, NoMemory>
-    ensures { IfOk result (λ a. (page : PageView) → Acts (told_pages told.now) (ask_pair (Fault.NoSnapshot id.now name.now) (Some pair) ▷ need_text id.now) page notes.old a notes.new) }
+    ensures acts { IfOk result (λ a. (plan : Lookups) (page : PageView) → Acts plan (told_pages told.now) (ask_pair (Fault.NoSnapshot id.now name.now) (Some pair) ▷ need_text id.now) page notes.old a notes.new) }
+    ensures within { IfOk result (λ a. (own : PlanView) → IsActOf own a) }
 {
     let Some(page) = told.get(pair) else {
         return Ok(Act::Asks(one(alloc, pair)?));
@@ -71,7 +69,8 @@ fn loaded(
     Ok(Act::Gives(page.try_clone()?))
 }
 
-fn one(alloc: Global, pair: PairNo) -> Result<Vec<PairNo>, NoMemory>
+/// The list of one pair.
+pub(crate) fn one(alloc: Global, pair: PairNo) -> Result<Vec<PairNo>, NoMemory>
     ensures { IfOk result (λ v. v.items ≡ pair ∷ []) }
 {
     let mut pairs = Vec::new(alloc);

@@ -1,17 +1,15 @@
 // A machine: the compiler of one item, suspended where it asks for pages.
 ghost use Rattle.std.specs.Prelude.{◌≡◌, ◌<◌, length, IfOk};
 ghost use Rattle.hk_fix.specs.Meaning.{fresh};
-ghost use Rattle.hk_rules.specs.Plan.{lookups};
-ghost use Rattle.hk_machine.specs.Runnable.{IsRunnable};
 
+use crate::maker::runs;
 use crate::making::page_of;
-use crate::notes::Notes;
-use crate::told::Told;
 use crate::way::Way;
 use crate::work::Work;
-use hk_base::NoMemory;
+use hk_base::{NoMemory, Shared};
 use hk_chain::{ItemNo, Kind};
-use hk_rules::{Plan, Shared};
+use hk_eval::{Awaited, Notes, Told};
+use hk_rules::Plan;
 use std::alloc::Global;
 use std::marker::Model;
 
@@ -30,8 +28,8 @@ impl Model for Machine {
     ghost use Rattle.hk_rules.specs.contracts.plan.Plan as plans;
     ghost use Rattle.hk_rules.specs.Plan.{lookups};
     ghost use Rattle.hk_machine.specs.Machine.{MachineView, view_of};
-    ghost use Rattle.hk_machine.specs.Keeping.{Keeps, HasRoom};
-    ghost use Rattle.hk_machine.specs.Runnable.{IsRunnable};
+    ghost use Rattle.hk_machine.specs.Keeping.{Keeps, HasRoom, HasCome};
+    ghost use Rattle.hk_machine.specs.Runnable.{Runs};
 
     ghost Value = { MachineView };
 
@@ -39,7 +37,7 @@ impl Model for Machine {
 
     ghost view = { λ m. view_of m.plan m.item m.way m.is_spent };
 
-    ghost invariant = { λ m. IsRunnable (lookups m.plan) (length m.plan.items) (length m.plan.patterns) × (m.item < length m.plan.items) × (m.is_spent ≡ false → Keeps (lookups m.plan) m.item m.way) × HasRoom m.way };
+    ghost invariant = { λ m. Runs m.plan × (m.item < length m.plan.items) × (m.is_spent ≡ false → m.way.is_ended ≡ false → Keeps m.plan m.item m.way) × HasRoom m.way × HasCome (lookups m.plan) m.item m.way };
 }
 
 impl Machine {
@@ -47,19 +45,20 @@ impl Machine {
 
     /// The compiler of an item, which hasn't begun. `NoMemory` only for want of memory. Constant.
     pub fn new(alloc: Global, plan: Shared<Plan>, item: ItemNo) -> Result<Machine, NoMemory>
-        requires plan { IsRunnable (lookups plan) (length plan.items) (length plan.patterns) }
-        requires item { item < length plan.items }
+        requires { item < length plan.items }
         ensures { IfOk result (λ m. meaning_of m ≡ fresh plan item) }
     {
+        runs(plan.get());
         let work = Work {
             at: 0,
             page: page_of(alloc, Kind::Text, b"")?,
+            rendering: None,
             notes: Notes::new(alloc),
         };
         let way = Way {
             work,
             told: Told::new(alloc),
-            awaits: Vec::new(alloc),
+            awaits: Awaited::none(alloc),
             given: 0,
             last: None,
             used: Vec::new(alloc),

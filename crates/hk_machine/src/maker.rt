@@ -1,28 +1,27 @@
 // What makes the machines of a plan.
 ghost use Rattle.std.specs.Prelude.{◌≡◌, length};
-ghost use Rattle.hk_rules.specs.LinkedPlan.{IsLinkedPlan};
 ghost use Rattle.hk_rules.specs.Plan.{lookups};
-ghost use Rattle.hk_machine.specs.Runnable.{IsRunnable};
+ghost use Rattle.hk_machine.specs.Runnable.{Runs};
 ghost use Rattle.hk_machine.specs.RunnableOnce.{runnable-prop};
 
 use crate::machine::Machine;
-use hk_base::NoMemory;
+use hk_base::{NoMemory, Shared};
 use hk_chain::ItemNo;
+use hk_eval::renders;
 use hk_fix::Maker;
-use hk_rules::{Plan, Shared};
+use hk_rules::Plan;
 use std::alloc::Global;
 
 /// Makes the machines of a plan.
 #[derive(Drop)]
 pub struct PlanMaker {
     plan: Shared<Plan>,
-    ghost runs: { IsRunnable (lookups plan) (length plan.items) (length plan.patterns) } by { runnable-prop (lookups plan) (length plan.items) (length plan.patterns) },
+    ghost runs: { Runs plan } by { runnable-prop (lookups plan) (length plan.items) (length plan.contexts) (length plan.patterns) },
 }
 
 impl PlanMaker {
     /// What makes the machines of this plan. Constant.
     pub fn new(plan: Shared<Plan>) -> PlanMaker
-        requires { IsLinkedPlan plan }
         ensures { result.plan ≡ plan }
     {
         runs(plan.get());
@@ -30,11 +29,12 @@ impl PlanMaker {
     }
 }
 
-/// The chains of a linked plan are compilers.
+/// The chains of a plan are compilers.
 pub fn runs(plan: &Plan)
-    requires { IsLinkedPlan plan.now }
-    ensures { IsRunnable (lookups plan.now) (length plan.now.items) (length plan.now.patterns) }
+    ensures { Runs plan.now }
 {
+    plan.linked();
+    renders(plan);
     let _items = plan.layout().get().items();
 }
 

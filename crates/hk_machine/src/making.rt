@@ -6,13 +6,13 @@ ghost use Rattle.hk_rules.specs.Plan.{lookups};
 ghost use Rattle.hk_html.specs.Root.{root_of};
 ghost use Rattle.hk_html.specs.Relative.{with_roots};
 ghost use Rattle.hk_machine.specs.Acting.{Makes};
-ghost use Rattle.hk_machine.specs.Asking.{need_text, text_page};
+ghost use Rattle.hk_eval.specs.Asking.{need_text, text_page};
 ghost use Rattle.hk_machine.specs.Chain as spec;
 
 use crate::act::Act;
-use crate::loading::is_text;
 use hk_base::{NoMemory, Refusal, Text};
 use hk_chain::{Fault, ItemNo, Kind, Page, PageRef};
+use hk_eval::is_text;
 use hk_html::relativize;
 use hk_rules::Plan;
 use hk_template::parse;
@@ -24,6 +24,17 @@ pub(crate) fn page_of(alloc: Global, kind: Kind, bytes: &[u8]) -> Result<PageRef
 {
     let body = Text::from_slice(alloc, bytes)?;
     PageRef::new(alloc, Page { kind, body })
+}
+
+/// The page of a text.
+pub(crate) fn text_of(alloc: Global, text: Text) -> Result<PageRef, NoMemory>
+    ensures { IfOk result (λ p. p ≡ text_page text) }
+{
+    let page = Page {
+        kind: Kind::Text,
+        body: text,
+    };
+    PageRef::new(alloc, page)
 }
 
 /// A step that makes a page of these bytes.
@@ -93,13 +104,7 @@ fn rooted(alloc: Global, page: &PageRef, target: &[u8]) -> Result<PageRef, NoMem
     ensures { IfOk result (λ p. p ≡ text_page (with_roots (root_of target.now) page.now.body)) }
 {
     let body = relativize(alloc, page.get().body.as_slice(), target)?;
-    PageRef::new(
-        alloc,
-        Page {
-            kind: Kind::Text,
-            body,
-        },
-    )
+    text_of(alloc, body)
 }
 
 /// A step that saves the page under a name of the item's chain. Linear in the chain.

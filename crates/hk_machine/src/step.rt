@@ -1,19 +1,19 @@
-// One step of a chain.
-ghost use Rattle.std.specs.Prelude.{◌≡◌, ◌<◌, length, IfOk};
+// The steps of a chain.
+ghost use Rattle.std.specs.Prelude.{◌<◌, length, IfOk};
 ghost use Rattle.hk_rules.specs.Plan.{lookups};
-ghost use Rattle.hk_machine.specs.Acting.{Acts, Makes};
+ghost use Rattle.hk_machine.specs.Acting.{Acts, IsActOf, Makes};
 ghost use Rattle.hk_machine.specs.Chain.{step_task};
-ghost use Rattle.hk_machine.specs.Runnable.{IsRunnable, IsRunnableStep, NeedsNoPage};
-ghost use Rattle.hk_machine.specs.Told.{told_pages};
+ghost use Rattle.hk_machine.specs.Runnable.{Runs, IsRunnableStep, NeedsNoPage};
+ghost use Rattle.hk_eval.specs.Told.{told_pages};
 
 use crate::act::Act;
 use crate::concat::concat;
 use crate::loading::load;
 use crate::making::{body_of, file_of, made, relative, save, template};
-use crate::notes::Notes;
-use crate::told::Told;
+use crate::rendering::{apply, apply_self};
 use hk_base::NoMemory;
 use hk_chain::{ItemNo, Kind, PageRef, Step};
+use hk_eval::{Notes, Told};
 use hk_rules::Plan;
 use std::alloc::Global;
 
@@ -27,14 +27,23 @@ pub(crate) fn act(
     told: &Told,
     notes: &mut Notes,
 ) -> Result<Act, NoMemory>
-    requires plan { IsRunnable (lookups plan.now) (length plan.now.items) (length plan.now.patterns) }
+    requires plan { Runs plan.now }
     requires item { item < length plan.now.items }
-    requires step { IsRunnableStep (length plan.now.patterns) step.now }
-    ensures { IfOk result (λ a. Acts (told_pages told.now) (step_task (lookups plan.now) item step.now page.now) page.now notes.old a notes.new) }
+    requires step { IsRunnableStep (length plan.now.contexts) (length plan.now.patterns) step.now }
+    ensures acts { IfOk result (λ a. Acts (lookups plan.now) (told_pages told.now) (step_task (lookups plan.now) item step.now page.now) page.now notes.old a notes.new) }
+    ensures within { IfOk result (λ a. IsActOf plan.now a) }
 {
     match step {
         Step::Load { id, snapshot } => {
             let act = load(alloc, plan, id, snapshot.as_slice(), told, notes)?;
+            Ok(act)
+        }
+        Step::Apply { id, context } => {
+            let act = apply(alloc, plan, item, id, *context, page, told, notes)?;
+            Ok(act)
+        }
+        Step::SelfApply(context) => {
+            let act = apply_self(alloc, plan, item, *context, page)?;
             Ok(act)
         }
         Step::Concat(pattern) => {

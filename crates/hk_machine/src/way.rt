@@ -1,19 +1,17 @@
 // How far a machine has come.
-ghost use Rattle.std.specs.Prelude.{◌≡◌, ◌+◌, ◌<◌, ◌≤◌, ◌++◌, ℕ, true, None, length, option_to_list, IfOk, OnOk, OnErr};
-ghost use Rattle.std.specs.List.{AllByRecursion};
+ghost use Rattle.std.specs.Prelude.{◌≡◌, ◌+◌, ◌<◌, ◌≤◌, ◌++◌, ℕ, true, None, length, nat_eq, option_to_list, IfOk, OnOk, OnErr};
+ghost use Rattle.std.specs.List.{AllByRecursion, IsDistinct};
 ghost use Rattle.std.specs.Vec.{vec_capacity};
 ghost use Rattle.hk_chain.specs.Layout.{final_of};
 ghost use Rattle.hk_rules.specs.Plan.{lookups};
-ghost use Rattle.hk_machine.specs.Keeping.{Stays};
-ghost use Rattle.hk_machine.specs.Noted.{with_save};
-ghost use Rattle.hk_machine.specs.Runnable.{IsRunnable};
-ghost use Rattle.hk_machine.specs.Told.{told_pages, is_listed};
+ghost use Rattle.hk_machine.specs.Keeping.{Stays, UsesSame};
+ghost use Rattle.hk_eval.specs.Noted.{with_save};
+ghost use Rattle.hk_eval.specs.Told.{told_pages, is_listed};
 
-use crate::notes::Notes;
-use crate::told::Told;
 use crate::work::Work;
 use hk_base::NoMemory;
 use hk_chain::{Facts, ItemNo, PairNo};
+use hk_eval::{Awaited, Notes, Told};
 use hk_fix::Polled;
 use hk_rules::Plan;
 use std::alloc::Global;
@@ -25,7 +23,7 @@ pub(crate) struct Way {
     pub work: Work,
     pub told: Told,
     /// The asked pairs that weren't answered, in order.
-    pub awaits: Vec<PairNo>,
+    pub awaits: Awaited,
     /// How many pages were given on the way.
     pub given: usize,
     /// The pair that the last poll saved.
@@ -39,6 +37,7 @@ pub(crate) struct Way {
 pub(crate) fn settle(last: &mut Option<PairNo>, used: &mut Vec<PairNo>) -> Result<(), NoMemory>
     ensures last { OnOk result (last.new ≡ None) }
     ensures used { OnOk result (used.new.items ≡ used.old.items ++ option_to_list last.old) }
+    ensures same { OnErr result ((last.new ≡ last.old) × (used.new.items ≡ used.old.items)) }
 {
     if let Some(pair) = *last {
         used.push(pair)?;
@@ -53,6 +52,7 @@ pub(crate) fn give(way: &mut Way, pair: PairNo) -> Result<Polled, NoMemory>
     ensures polled { IfOk result (λ p. p ≡ Polled.Saved pair way.old.work.page) }
     ensures gone { OnOk result (way.new ≡ record way.old { work = record way.old.work { notes = with_save way.old.work.notes pair }; given = way.old.given + 1; last = Some pair }) }
     ensures stays { OnErr result (Stays way.old way.new) }
+    ensures uses { OnErr result (UsesSame way.old way.new) }
 {
     let page = way.work.page.try_clone()?;
     way.work.notes.note_save(pair)?;
@@ -64,18 +64,20 @@ pub(crate) fn give(way: &mut Way, pair: PairNo) -> Result<Polled, NoMemory>
 
 /// Waits for pages.
 pub(crate) fn wait(way: &mut Way, pairs: Vec<PairNo>) -> Result<Polled, NoMemory>
-    requires { AllByRecursion (λ p. told_pages way.old.told p ≡ None) pairs.items }
+    requires untold { AllByRecursion (λ p. told_pages way.old.told p ≡ None) pairs.items }
+    requires distinct { IsDistinct nat_eq pairs.items }
     ensures polled { IfOk result (λ p. p ≡ Polled.Ask) }
-    ensures gone { OnOk result (way.new ≡ record way.old { told = way.new.told; awaits = pairs; used = way.new.used }) }
+    ensures gone { OnOk result (way.new ≡ record way.old { told = way.new.told; awaits = pairs.items; used = way.new.used }) }
     ensures pages { (q : ℕ) → told_pages way.new.told q ≡ told_pages way.old.told q }
     ensures listed { OnOk result (AllByRecursion (λ p. is_listed way.new.told p ≡ true) pairs.items) }
     ensures used { way.new.used.items ≡ way.old.used.items }
     ensures room { OnOk result (length way.old.used.items + length pairs.items ≤ vec_capacity way.new.used) }
     ensures stays { OnErr result (Stays way.old way.new) }
+    ensures uses { OnErr result (UsesSame way.old way.new) }
 {
     way.told.reserve(pairs.as_slice())?;
     way.used.reserve(pairs.len())?;
-    way.awaits = pairs;
+    way.awaits = Awaited::of(pairs);
     Ok(Polled::Ask)
 }
 
@@ -90,6 +92,7 @@ pub(crate) fn finish(
     ensures polled { IfOk result (λ p. p ≡ Polled.Done way.old.work.page (with_save way.old.work.notes (final_of (lookups plan.now).layout item))) }
     ensures gone { OnOk result (way.new ≡ record way.old { work = record way.old.work { notes = way.new.work.notes }; is_ended = true }) }
     ensures stays { OnErr result (Stays way.old way.new) }
+    ensures uses { OnErr result (UsesSame way.old way.new) }
 {
     let page = way.work.page.try_clone()?;
     let layout = plan.layout();

@@ -1,0 +1,53 @@
+//! Suspended rendering: the value of a key, the places of a list, and templates, each under the pages that are told.
+#![tactic(auto)]
+
+mod asking;
+mod awaited;
+mod block;
+mod course;
+mod field;
+mod finding;
+mod found;
+mod frame;
+mod group;
+mod list;
+mod listed;
+mod look;
+mod lookup;
+mod making;
+mod moves;
+mod named;
+mod node;
+mod notes;
+mod place;
+mod placing;
+mod render;
+mod render_step;
+mod renderable;
+mod seen;
+mod series;
+mod sharing;
+mod stack;
+mod step;
+mod title;
+mod told;
+
+pub use asking::is_text;
+pub use awaited::Awaited;
+pub use block::Block;
+pub use finding::{find_template, read_template};
+pub use found::Found;
+pub use group::{Group, lacking, pairs_of};
+pub use list::list_of;
+pub use listed::Listed;
+pub use look::{Listing, Look};
+pub use lookup::look_up;
+pub use moves::Stop;
+pub use named::{plans_tell_names, renderings_are_deeds};
+pub use notes::Notes;
+pub use place::Place;
+pub use render::Render;
+pub use render_step::RenderStep;
+pub use renderable::renders;
+pub use stack::Stack;
+pub use told::Told;
