@@ -1,7 +1,7 @@
-pub mod Building
+pub mod Compiling
+pub mod Endings
 pub mod FolderReads
-pub mod FolderWrites
-pub mod Making
+pub mod Judging
 pub mod PageMaps
-pub mod Targets
-pub mod WholeSite
+pub mod PageWrites
+pub mod SourceReads

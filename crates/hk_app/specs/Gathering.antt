@@ -2,12 +2,13 @@
 use Rattle.std.specs.Prelude.{◌≡◌, IfSome}
 use Rattle.hk_base.specs.Bytes.{Bytes}
 use Rattle.hk_outside.specs.Causes.{Rose}
+use Rattle.hk_rules.specs.PlanView.{PlanView}
 use Rattle.hk_app.specs.declared.status.Status.{Status}
 use Rattle.hk_app.specs.declared.status.Status.TheVariants.{BadRules, BadSite, ReadFault}
 use Rattle.hk_app.specs.declared.reading.Gathered.{Gathered}
 use Rattle.hk_app.specs.declared.reading.Gathered.TheVariants.{Refused, Planned}
 use Rattle.hk_app.specs.Site.{Reading, planned, reading}
-use Rattle.hk_app.specs.Printed.{read_fault_line}
+use Rattle.hk_texts.specs.Printed.{read_fault_line}
 use Rattle.hk_app.specs.Promise.{IsBadRules, IsBadSite}
 use Rattle.hk_app.specs.World.{Folder}
 

@@ -1,11 +1,10 @@
-pub mod Complete
+pub mod Compiled
 pub mod Gathering
 pub mod Pages
-pub mod Printed
 pub mod Promise
 pub mod Reading
 pub mod Run
 pub mod Site
+pub mod Standing
 pub mod Status
 pub mod World
-pub mod Writing

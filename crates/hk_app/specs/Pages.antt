@@ -1,46 +1,63 @@
--- The pages of a plan.
-use Rattle.std.specs.Prelude.{ℕ, ◌-◌, List, [], Option, drop, fold, option_map}
+-- What the compilers of a plan come to, from nothing that is kept: the pages, the report and the site.
+use Rattle.std.specs.Prelude.{ℕ, ◌-◌, ◌==◌, Bool, ◌&&◌, List, Option, Some, None, length, map}
 use Rattle.std.specs.List.{filter_map, range_with_len}
-use Rattle.std.specs.Option.{unwrap_or}
 use Rattle.std.specs.FinMap.{entries, from_entries, empty}
 use Rattle.hk_base.specs.Bytes.{Bytes, Files}
+use Rattle.hk_chain.specs.declared.page.Page.{Page}
+use Rattle.hk_chain.specs.Kept.{none_kept}
+use Rattle.hk_chain.specs.Layout.{final_of}
+use Rattle.hk_fix.specs.Fix.{Ending, Seeds, seeds_of, fix, status}
+use Rattle.hk_fix.specs.Pages.{Pages}
+use Rattle.hk_fix.specs.Report.{ReportView, report_of, upto}
+use Rattle.hk_machine.specs.Machine.{plan_run, plan_shape}
 use Rattle.hk_outside.specs.Held.{set_all}
-use Rattle.hk_chain.specs.declared.chain.Step.{Step}
-use Rattle.hk_chain.specs.declared.chain.Step.TheVariants.{Body, Str, Copy, Make}
 use Rattle.hk_rules.specs.PlanView.{PlanView}
-use Rattle.hk_rules.specs.Plan.{Lookups, lookups}
+use Rattle.hk_rules.specs.Plan.{lookups}
 
--- the map of some entries
-abbrev pub map_of : List (Bytes × Bytes) → Files
-map_of es = from_entries es
+-- the bodies of some pages, each with its target
+abbrev pub bodies : List (Bytes × Page) → List (Bytes × Bytes)
+bodies es = map (λ e. (e.0, e.1.body)) es
 
--- the whole resource; an item that is created has none
-abbrev pub resource : Lookups → ℕ → Bytes
-resource plan item = unwrap_or (plan.resource item) []
+-- the map from the targets to the bodies
+abbrev pub map_of : List (Bytes × Page) → Files
+map_of es = from_entries (bodies es)
 
--- the body of an item's page after a step; no plan has another step today
-abbrev pub after_step : Lookups → ℕ → Bytes → Step → Bytes
-after_step plan item body Body = drop (plan.body_start item) (resource plan item)
-after_step plan item body Str = resource plan item
-after_step plan item body Copy = resource plan item
-after_step plan item body (Make text) = text
-after_step plan item body _ = body
+abbrev pub no_seeds : PlanView → Seeds
+no_seeds plan = seeds_of (none_kept (plan_shape plan))
 
--- the body of an item's finished page: it begins without bytes, and each step changes it
-abbrev pub body_of : Lookups → ℕ → Bytes
-body_of plan item = fold (after_step plan item) [] (plan.chain item)
+-- the page of each pair in the least fixpoint, where there is one
+unfoldable pub known : PlanView → Pages
+known plan = fix (plan_shape plan) (plan_run plan) (no_seeds plan)
 
--- the target of an item with the body of its page, where it has a target
-abbrev pub page_at : Lookups → ℕ → Option (Bytes × Bytes)
-page_at plan item = option_map (λ target. (target, body_of plan item)) (plan.target_of item)
+-- how each item ends there
+unfoldable pub endings : PlanView → List Ending
+endings plan = map (status (plan_shape plan) (plan_run plan) (no_seeds plan)) (upto (length plan.items))
+
+-- the items that aren't done
+abbrev pub report : PlanView → ReportView
+report plan = report_of (plan_shape plan) (endings plan)
+
+-- there is nothing to report
+abbrev pub is_empty : ReportView → Bool
+is_empty r = (length r.failed == 0) && ((length r.cycles == 0) && (length r.blocked == 0))
+
+-- a target with the body of a page, where both are there
+abbrev pub placed : Option Bytes → Option Page → Option (Bytes × Bytes)
+placed None page = None
+placed (Some target) None = None
+placed (Some target) (Some page) = Some (target, page.body)
+
+-- the target of an item with the body of its finished page: a done item has one
+abbrev pub page_at : PlanView → ℕ → Option (Bytes × Bytes)
+page_at plan item = placed ((lookups plan).target_of item) (known plan (final_of (plan_shape plan) item))
 
 -- the pages of the items from one on
-abbrev pub pages_from : Lookups → ℕ → List (Bytes × Bytes)
-pages_from plan item = filter_map (page_at plan) (range_with_len item (plan.count - item))
+abbrev pub pages_from : PlanView → ℕ → List (Bytes × Bytes)
+pages_from plan item = filter_map (page_at plan) (range_with_len item (length plan.items - item))
 
--- the site: the map from target to page; no two items of a plan have one target
+-- the site: the map from target to body of the done items; no two items of a plan have one target
 abbrev pub site_of : PlanView → Files
-site_of plan = set_all (pages_from (lookups plan) 0) empty
+site_of plan = set_all (pages_from plan 0) empty
 
 -- the pages in the order of their targets
 abbrev pub pages : PlanView → List (Bytes × Bytes)

@@ -1,59 +1,100 @@
 -- What each status of a run promises.
-use Rattle.std.specs.Prelude.{◌≡◌, ◌⊎◌, ℕ, ◌≤◌, List, [], ◌∷◌, ◌++◌, Option, Some, None, IfSome, IsSome, codes, bytes_eq, if◌then◌else◌, length, take}
-use Rattle.std.specs.FinMap.{keys}
+use Rattle.std.specs.Prelude.{◌≡◌, ◌⊎◌, ℕ, ◌≤◌, true, false, List, ◌++◌, Option, Some, None, IfSome, length, take}
 use Rattle.hk_base.specs.Bytes.{Bytes, Files}
 use Rattle.hk_outside.specs.Causes.{Rose}
 use Rattle.hk_rules.specs.PlanView.{PlanView}
+use Rattle.hk_rules.specs.Plan.{lookups}
+use Rattle.hk_texts.specs.Printed.{absent_line, rules_line, plan_line, read_fault_line, write_fault_line, summary, items_line}
+use Rattle.hk_texts.specs.ReportText.{report_text}
+use Rattle.hk_words.specs.Usage.{usage}
+use Rattle.hk_words.specs.declared.commands.Command.{Command}
+use Rattle.hk_words.specs.declared.commands.Command.TheVariants.{Build, Check}
 use Rattle.hk_app.specs.declared.status.Status.{Status}
-use Rattle.hk_app.specs.declared.status.Status.TheVariants.{Ok as Done, Usage, BadRules, BadSite, ReadFault, WriteFault, OutFault, NoMemory}
+use Rattle.hk_app.specs.declared.status.Status.TheVariants.{Ok as Done, Report, Usage, BadRules, BadSite, ReadFault, WriteFault, OutFault, NoMemory}
+use Rattle.hk_words.specs.Words.{command}
+use Rattle.hk_app.specs.Pages.{endings, report, is_empty, site_of}
 use Rattle.hk_app.specs.Site.{Reading, absent, refused, unplanned, planned, reading}
-use Rattle.hk_app.specs.Pages.{pages, site_of}
-use Rattle.hk_app.specs.Printed.{usage, absent_line, rules_line, plan_line, read_fault_line, write_fault_line, summary}
-use Rattle.hk_app.specs.Writing.{changes, writings, removals, IsMadeInPart, IsTornInPart}
+use Rattle.hk_app.specs.Standing.{Same, Told, HoldsOnly, IsPartly, IsTorn, written, removed}
 use Rattle.hk_app.specs.World.{Folder, Output, Folders}
 
-pub data Command : Type 0 where
-  build : Command
+-- ---- with every status
 
--- the command that the words are
-abbrev pub command : List Bytes → Option Command
-command (w ∷ []) = if bytes_eq w (codes "build") then Some build else None
-command _ = None
-
--- nothing of the folder changed
-abbrev pub Same : Folder → Folder → Type 0
-Same old new = new.files ≡ old.files
-
--- a folder that told its files tells them still
-abbrev pub Told : Folder → Folder → Type 0
-Told old new = IfSome old.files (λ m. IsSome new.files)
-
--- what holds with every status
 pub record Always (old new : Folders) : Type 0 where
   pub source : Same old.source new.source
   pub source_count : old.source.faults ≤ new.source.faults
   pub site_count : old.site.faults ≤ new.site.faults
   pub site_told : Told old.site new.site
+  pub cache_count : old.cache.faults ≤ new.cache.faults
+  pub cache_told : Told old.cache new.cache
+
+-- no call of any of the three folders was made
+abbrev pub Untouched : Folders → Folders → Type 0
+Untouched old new = new ≡ old
+
+-- ---- what a command goes by
+
+-- the source has a plan, and of it P holds
+abbrev pub Plans : Folders → (PlanView → Type 0) → Type 0
+Plans old P = IfSome old.source.files (λ m. (plan : PlanView) × (reading m ≡ planned plan) × P plan)
+
+-- every item is done
+abbrev pub AllEnd : PlanView → Type 0
+AllEnd plan = is_empty (report plan) ≡ true
+
+-- some item failed or waits
+abbrev pub SomeStop : PlanView → Type 0
+SomeStop plan = is_empty (report plan) ≡ false
+
+abbrev pub summary_of : PlanView → Files → Bytes
+summary_of plan before = summary (length plan.items) (written (site_of plan) before) (removed (site_of plan) before)
+
+abbrev pub report_lines : PlanView → Bytes
+report_lines plan = report_text (lookups plan) (endings plan) (report plan)
+
+abbrev pub count_line : PlanView → Bytes
+count_line plan = items_line (length plan.items)
+
+-- ---- 0: the command was done
+
+pub record IsBuilt (old new : Folders) (said : Bytes) (plan : PlanView) : Type 0 where
+  pub all : AllEnd plan
+  pub site : HoldsOnly (site_of plan) old.site new.site
+  pub text : IfSome old.site.files (λ before. said ≡ summary_of plan before)
+
+pub record Builds (old new : Folders) (said : Bytes) : Type 0 where
   pub cache : Same old.cache new.cache
-  pub cache_count : new.cache.faults ≡ old.cache.faults
+  pub run : Plans old (IsBuilt old new said)
 
--- the source has rules that make a plan of it, and of this and of the site's files before P holds
-abbrev pub Plans : Folders → (PlanView → Files → Type 0) → Type 0
-Plans old P = IfSome old.source.files (λ m. (plan : PlanView) × (reading m ≡ planned plan) × IfSome old.site.files (P plan))
+pub record IsShown (shown : PlanView → Bytes) (said : Bytes) (plan : PlanView) : Type 0 where
+  pub all : AllEnd plan
+  pub text : said ≡ shown plan
 
--- the site holds exactly the pages, and the text counts what was compiled, written and removed
-pub record IsBuilt (left : Option Files) (said : Bytes) (plan : PlanView) (before : Files) : Type 0 where
-  pub site : left ≡ Some (site_of plan)
-  pub text : said ≡ summary (length plan.items) (length (writings (pages plan) before)) (length (removals (pages plan) (keys before)))
-
-pub record AtOk (words : List Bytes) (old new : Folders) (said : Bytes) : Type 0 where
-  pub asked : command words ≡ Some build
-  pub built : Plans old (IsBuilt new.site.files said)
-
-pub record AtUsage (words : List Bytes) (old new : Folders) (said : Bytes) : Type 0 where
-  pub cause : command words ≡ None
+-- nothing but the text is written
+pub record Shows (shown : PlanView → Bytes) (old new : Folders) (said : Bytes) : Type 0 where
   pub site : Same old.site new.site
-  pub text : said ≡ usage
+  pub cache : Same old.cache new.cache
+  pub run : Plans old (IsShown shown said)
+
+abbrev pub IsDone : Command → Folders → Folders → Bytes → Type 0
+IsDone Build = Builds
+IsDone Check = Shows count_line
+
+-- ---- 1: some item failed or waits
+
+pub record IsReported (said : Bytes) (plan : PlanView) : Type 0 where
+  pub some : SomeStop plan
+  pub text : said ≡ report_lines plan
+
+pub record Reports (old new : Folders) (said : Bytes) : Type 0 where
+  pub site : Same old.site new.site
+  pub cache : Same old.cache new.cache
+  pub run : Plans old (IsReported said)
+
+abbrev pub IsStopped : Command → Folders → Folders → Bytes → Type 0
+IsStopped Build = Reports
+IsStopped Check = Reports
+
+-- ---- 3, 4 and 5: the source has no plan, or can't be read
 
 -- there are no rules, and the text says why
 abbrev pub IsBadRules : Bytes → Reading → Type 0
@@ -62,11 +103,6 @@ IsBadRules said (refused fault) = said ≡ rules_line fault
 IsBadRules said (unplanned fault) = ⊥
 IsBadRules said (planned plan) = ⊥
 
-pub record AtBadRules (words : List Bytes) (old new : Folders) (said : Bytes) : Type 0 where
-  pub asked : command words ≡ Some build
-  pub cause : IfSome old.source.files (λ m. IsBadRules said (reading m))
-  pub site : Same old.site new.site
-
 -- the rules make no plan, and the text says why
 abbrev pub IsBadSite : Bytes → Reading → Type 0
 IsBadSite said absent = ⊥
@@ -74,84 +110,153 @@ IsBadSite said (refused fault) = ⊥
 IsBadSite said (unplanned fault) = said ≡ plan_line fault
 IsBadSite said (planned plan) = ⊥
 
-pub record AtBadSite (words : List Bytes) (old new : Folders) (said : Bytes) : Type 0 where
-  pub asked : command words ≡ Some build
-  pub cause : IfSome old.source.files (λ m. IsBadSite said (reading m))
+-- the source was read, and this holds of what it comes to
+pub record IsRefused (P : Reading → Type 0) (old new : Folders) : Type 0 where
+  pub cause : IfSome old.source.files (λ m. P (reading m))
   pub site : Same old.site new.site
+  pub cache : Same old.cache new.cache
 
-pub record AtReadFault (words : List Bytes) (old new : Folders) (said : Bytes) : Type 0 where
-  pub asked : command words ≡ Some build
+pub record IsUnread (old new : Folders) (said : Bytes) : Type 0 where
   pub cause : Rose old.source.faults new.source.faults
   pub site : Same old.site new.site
+  pub cache : Same old.cache new.cache
   pub text : said ≡ read_fault_line
 
--- some first of the changes were made, and what a failed one left stands besides
-abbrev pub IsTornSite : Option Files → PlanView → Files → Type 0
-IsTornSite left plan before = IfSome left (IsTornInPart (changes (pages plan) before) before)
+-- ---- 6: the site can't be written
 
--- some first of the changes were made, and no other
-abbrev pub IsPartlySite : Option Files → PlanView → Files → Type 0
-IsPartlySite left plan before = IfSome left (IsMadeInPart (changes (pages plan) before) before)
+pub record IsUnwritten (old new : Folders) (plan : PlanView) : Type 0 where
+  pub all : AllEnd plan
+  pub site : IsTorn (site_of plan) old.site new.site
 
-pub record AtWriteFault (words : List Bytes) (old new : Folders) (said : Bytes) : Type 0 where
-  pub asked : command words ≡ Some build
+pub record FailsWriting (old new : Folders) (said : Bytes) : Type 0 where
   pub cause : Rose old.site.faults new.site.faults
-  pub site : Plans old (IsTornSite new.site.files)
+  pub cache : Same old.cache new.cache
+  pub run : Plans old (IsUnwritten old new)
   pub text : said ≡ write_fault_line
 
--- what holds of a run that came to a status and has this text to write
+abbrev pub IsWriteFault : Command → Folders → Folders → Bytes → Type 0
+IsWriteFault Build = FailsWriting
+IsWriteFault Check = λ old new said. ⊥
+
+-- ---- what holds of a run that came to a status and has this text to write
+
+-- a command came to a status
+abbrev pub Comes : Command → Folders → Folders → Status → Bytes → Type 0
+Comes c old new Done said = IsDone c old new said
+Comes c old new Report said = IsStopped c old new said
+Comes c old new Usage said = ⊥
+Comes c old new BadRules said = IsRefused (IsBadRules said) old new
+Comes c old new BadSite said = IsRefused (IsBadSite said) old new
+Comes c old new ReadFault said = IsUnread old new said
+Comes c old new WriteFault said = IsWriteFault c old new said
+Comes c old new OutFault said = ⊥
+Comes c old new NoMemory said = ⊥
+
+-- the words are a command, and this came to a status
+pub record AtCommand (words : List Bytes) (old new : Folders) (status : Status) (said : Bytes) : Type 0 where
+  pub task : Command
+  pub asked : command words ≡ Some task
+  pub comes : Comes task old new status said
+
+-- ---- 2: the words are no command
+
+pub record AtUsage (words : List Bytes) (old new : Folders) (said : Bytes) : Type 0 where
+  pub cause : command words ≡ None
+  pub folders : Untouched old new
+  pub text : said ≡ usage
+
 abbrev pub Holds : List Bytes → Folders → Folders → Status → Bytes → Type 0
-Holds words old new Done text = AtOk words old new text
-Holds words old new Usage text = AtUsage words old new text
-Holds words old new BadRules text = AtBadRules words old new text
-Holds words old new BadSite text = AtBadSite words old new text
-Holds words old new ReadFault text = AtReadFault words old new text
-Holds words old new WriteFault text = AtWriteFault words old new text
-Holds words old new OutFault text = ⊥
-Holds words old new NoMemory text = ⊥
+Holds words old new Usage said = AtUsage words old new said
+Holds words old new status said = AtCommand words old new status said
 
--- the site holds exactly the pages
-abbrev pub IsWholeSite : Option Files → PlanView → Files → Type 0
-IsWholeSite left plan before = left ≡ Some (site_of plan)
+-- ---- 9: want of memory
 
--- what want of memory leaves: the site as it was, or some first of the changes made, or the whole site, and only after a
--- counted fault what a failed change left
-pub data LeavesWanting (words : List Bytes) (old new : Folders) : Type 0 where
-  untouched : Same old.site new.site → LeavesWanting words old new
-  partly : command words ≡ Some build → Plans old (IsPartlySite new.site.files) → LeavesWanting words old new
-  whole : command words ≡ Some build → Plans old (IsWholeSite new.site.files) → LeavesWanting words old new
-  torn : command words ≡ Some build → Rose old.site.faults new.site.faults → Plans old (IsTornSite new.site.files) → LeavesWanting words old new
+pub record IsPartlyBuilt (old new : Folders) (plan : PlanView) : Type 0 where
+  pub all : AllEnd plan
+  pub site : IsPartly (site_of plan) old.site new.site
 
--- a text and the writing of it
+pub record IsWhollyBuilt (old new : Folders) (plan : PlanView) : Type 0 where
+  pub all : AllEnd plan
+  pub site : HoldsOnly (site_of plan) old.site new.site
+
+-- a build: nothing was done, or some of the site, or all of it, or after a counted fault what a failed change left
+pub data StopsBuild (old new : Folders) : Type 0 where
+  unbegun : Same old.site new.site → Same old.cache new.cache → StopsBuild old new
+  partly : Plans old (IsPartlyBuilt old new) → Same old.cache new.cache → StopsBuild old new
+  torn_site : Rose old.site.faults new.site.faults → Plans old (IsUnwritten old new) → Same old.cache new.cache → StopsBuild old new
+  past : Plans old (IsWhollyBuilt old new) → Same old.cache new.cache → StopsBuild old new
+
+pub record StopsReader (old new : Folders) : Type 0 where
+  pub site : Same old.site new.site
+  pub cache : Same old.cache new.cache
+
+-- what want of memory leaves
+abbrev pub Leaves : Option Command → Folders → Folders → Type 0
+Leaves None old new = Untouched old new
+Leaves (Some Build) old new = StopsBuild old new
+Leaves (Some Check) old new = StopsReader old new
+
+-- ---- what is written
+
 pub record Written (old new : Output) (text : Bytes) : Type 0 where
   pub all : IfSome old.written (λ w. new.written ≡ Some (w ++ text))
 
+-- a front of the text, after a counted fault
 pub record Cut (old new : Output) (text : Bytes) : Type 0 where
   pub cause : Rose old.faults new.faults
   pub front : IfSome old.written (λ w. (n : ℕ) × (n ≤ length text) × (new.written ≡ Some (w ++ take n text)))
 
--- nothing was written, for want of memory
+-- nothing is written
 pub record AtNoMemory (words : List Bytes) (old new : Folders) (out out' : Output) : Type 0 where
-  pub leaves : LeavesWanting words old new
+  pub leaves : Leaves (command words) old new
   pub written : out'.written ≡ out.written
 
--- With `OutFault` the text of one other status was cut short, of which all else holds.
+-- Of a text that was cut short all else holds that holds of its own status.
+pub record AtOutFault (words : List Bytes) (old new : Folders) (out out' : Output) : Type 0 where
+  pub status : Status
+  pub text : Bytes
+  pub holds : Holds words old new status text
+  pub cut : Cut out out' text
+
+pub record Says (words : List Bytes) (old new : Folders) (out out' : Output) (status : Status) : Type 0 where
+  pub text : Bytes
+  pub holds : Holds words old new status text
+  pub written : Written out out' text
+
 abbrev pub Said : List Bytes → Folders → Folders → Output → Output → Status → Type 0
-Said words old new out out' OutFault = (status : Status) × (text : Bytes) × Holds words old new status text × Cut out out' text
+Said words old new out out' OutFault = AtOutFault words old new out out'
 Said words old new out out' NoMemory = AtNoMemory words old new out out'
-Said words old new out out' status = (text : Bytes) × Holds words old new status text × Written out out' text
+Said words old new out out' status = Says words old new out out' status
 
--- a command over a folder with a plan that ends neither well nor for want of memory had a counted fault
-pub record IsExcused (old new : Folders) (out out' : Output) : Type 0 where
-  pub some : (Rose old.source.faults new.source.faults ⊎ Rose old.site.faults new.site.faults) ⊎ Rose out.faults out'.faults
+-- ---- completeness
 
-abbrev pub Completes : Folders → Folders → Output → Output → Status → Type 0
-Completes old new out out' Done = Unit {0}
-Completes old new out out' NoMemory = Unit {0}
-Completes old new out out' _ = IsExcused old new out out'
+-- the source tells files with a plan whose items are all done
+pub record IsSound (old : Folders) : Type 0 where
+  pub files : Files
+  pub told : old.source.files ≡ Some files
+  pub plan : PlanView
+  pub planned : reading files ≡ planned plan
+  pub all : AllEnd plan
 
+pub data HasFault (old new : Folders) : Type 0 where
+  of_source : Rose old.source.faults new.source.faults → HasFault old new
+  of_site : Rose old.site.faults new.site.faults → HasFault old new
+  of_cache : Rose old.cache.faults new.cache.faults → HasFault old new
+
+-- a run gave way to want of memory or to a fault that was counted
+pub data IsExcused (old new : Folders) (out out' : Output) (status : Status) : Type 0 where
+  wanting : status ≡ NoMemory → IsExcused old new out out' status
+  failed : HasFault old new → IsExcused old new out out' status
+  unsaid : Rose out.faults out'.faults → IsExcused old new out out' status
+
+abbrev pub EndsWell : Folders → Folders → Output → Output → Status → Type 0
+EndsWell old new out out' status = (status ≡ Done) ⊎ IsExcused old new out out' status
+
+-- ---- the promise
+
+-- With a command and a sound source a run ends well, but for want of memory or a counted fault.
 pub record Promise (words : List Bytes) (old new : Folders) (out out' : Output) (status : Status) : Type 0 where
   pub always : Always old new
   pub later : out.faults ≤ out'.faults
   pub said : Said words old new out out' status
-  pub complete : command words ≡ Some build → IfSome old.source.files (λ m. (plan : PlanView) → reading m ≡ planned plan → Completes old new out out' status)
+  pub complete : (c : Command) → command words ≡ Some c → IsSound old → EndsWell old new out out' status

@@ -1,10 +1,11 @@
 -- The exit code of each status.
 use Rattle.std.specs.Prelude.{ℕ}
 use Rattle.hk_app.specs.declared.status.Status.{Status}
-use Rattle.hk_app.specs.declared.status.Status.TheVariants.{Ok, Usage, BadRules, BadSite, ReadFault, WriteFault, OutFault, NoMemory}
+use Rattle.hk_app.specs.declared.status.Status.TheVariants.{Ok, Report, Usage, BadRules, BadSite, ReadFault, WriteFault, OutFault, NoMemory}
 
 abbrev pub code_of : Status → ℕ
 code_of Ok = 0
+code_of Report = 1
 code_of Usage = 2
 code_of BadRules = 3
 code_of BadSite = 4

@@ -1,13 +1,13 @@
 //! The top call: one run, from the words of the command line to the site folder and the status.
 #![tactic(auto)]
 
+mod compile;
 mod ended;
 mod folder;
 mod pages;
 mod reading;
 mod run;
 mod status;
-mod writer;
 
 pub use run::site_main_one;
 pub use status::Status;

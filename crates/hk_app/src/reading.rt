@@ -1,17 +1,20 @@
 // What the source comes to under its rules: a plan, or the refusal of one.
 ghost use Rattle.std.specs.Prelude.{◌≡◌, ◌≤◌, IfOk, option_map};
 ghost use Rattle.hk_rules.specs.Planning.{plan_of};
+ghost use Rattle.hk_rules.specs.Linked.{IsLinked};
 ghost use Rattle.hk_app.specs.Gathering.{ReadsAs, Gathers};
 ghost use Rattle.hk_app.specs.Site as spec;
 ghost use Rattle.hk_app.specs.Site.{files_reading, plan_reading, rules_path, found_at};
 ghost use Rattle.hk_app.specs.World.{folder};
+ghost use Rattle.hk_texts.specs.Printed as printed;
 
 use crate::Status;
-use crate::ended::{Ended, bad_rules, bad_site};
+use crate::ended::Ended;
 use crate::folder::read_folder;
 use hk_base::{NoMemory, Refusal, Text};
 use hk_outside::{Tree, TreeFault};
-use hk_rules::{Plan, Rules, is_ignored, make_plan, read_rules};
+use hk_rules::{Plan, PlanFault, Rules, RulesFault, is_ignored, make_plan, read_rules};
+use hk_texts::{plan_line, rules_line};
 use std::alloc::Global;
 
 /// A plan, or what the run comes to without one.
@@ -39,7 +42,7 @@ pub fn gather<S: Tree>(alloc: Global, source: &mut S) -> Result<Gathered, NoMemo
 }
 
 fn plan_files(alloc: Global, files: Vec<(Text, Text)>) -> Result<Gathered, NoMemory>
-    ensures { IfOk result (ReadsAs (files_reading files.items)) }
+    ensures reads { IfOk result (ReadsAs (files_reading files.items)) }
 {
     match rules_text(files.as_slice()) {
         Some(bytes) => match read_rules(alloc, bytes) {
@@ -56,7 +59,8 @@ fn plan_unignored(
     rules: Rules,
     files: Vec<(Text, Text)>,
 ) -> Result<Gathered, NoMemory>
-    ensures { IfOk result (ReadsAs (plan_reading (plan_of rules (spec.unignored files.items)))) }
+    requires { IsLinked rules }
+    ensures reads { IfOk result (ReadsAs (plan_reading (plan_of rules (spec.unignored files.items)))) }
 {
     match make_plan(alloc, rules, unignored(files)) {
         Ok(plan) => Ok(Gathered::Planned(plan)),
@@ -84,4 +88,24 @@ fn rules_text(files: &[(Text, Text)]) -> Option<&[u8]>
         }
     }
     None
+}
+
+fn bad_rules(alloc: Global, fault: &RulesFault) -> Result<Ended, NoMemory>
+    ensures { IfOk result (λ e. (e.status ≡ Status.BadRules) × (e.text ≡ printed.rules_line fault.now)) }
+{
+    let text = rules_line(alloc, fault)?;
+    Ok(Ended {
+        status: Status::BadRules,
+        text,
+    })
+}
+
+fn bad_site(alloc: Global, fault: &PlanFault) -> Result<Ended, NoMemory>
+    ensures { IfOk result (λ e. (e.status ≡ Status.BadSite) × (e.text ≡ printed.plan_line fault.now)) }
+{
+    let text = plan_line(alloc, fault)?;
+    Ok(Ended {
+        status: Status::BadSite,
+        text,
+    })
 }

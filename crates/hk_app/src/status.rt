@@ -7,6 +7,8 @@ ghost use Rattle.hk_app.specs.Status.{code_of};
 pub enum Status {
     /// The command was done.
     Ok,
+    /// Not every item is done.
+    Report,
     /// The words are no command.
     Usage,
     /// `site.toml` is absent, or its rules are refused.
@@ -30,6 +32,7 @@ impl Status {
     {
         match self {
             Status::Ok => 0,
+            Status::Report => 1,
             Status::Usage => 2,
             Status::BadRules => 3,
             Status::BadSite => 4,

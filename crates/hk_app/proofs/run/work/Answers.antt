@@ -1,11 +1,12 @@
-use Rattle.std.proofs.Common.{rules, refl, subst}
-use Rattle.hk_app.specs.Gathering.{Gathers}
+use Rattle.std.proofs.Common.{◌∙◌, sym}
+use Rattle.std.proofs.lemmas.Result.{err_from_is_err_and}
 use Rattle.hk_app.specs.World.{folder}
-use Rattle.hk_app.proofs.Building.{refused-run}
+use Rattle.hk_app.proofs.Endings.{task-ends, unread-ends}
 use Rattle.hk_app.proofs.run.work.Goals as goal
 
-pub returns-in-Refused : goal.returns-in-Refused
-returns-in-Refused g c = record {
-  always = search rules;
-  holds = refused-run _ _ _ c.in-Refused.ended.status c.in-Refused.ended.text (search rules) refl (subst (λ x. Gathers (folder (g.S.Tree.files c.args.source.now) (g.S.Tree.faults c.args.source.now)) (folder (g.S.Tree.files c.gather.new.source) (g.S.Tree.faults c.gather.new.source)) x) c.in-Refused.is c.in_ok-ended.ensures.gathers);
-}
+pub returns-in_err-task : goal.returns-in_err-task
+returns-in_err-task g c =
+    let p = err_from_is_err_and c.from_residual.result c.from_residual.ensures.1 in unread-ends _ _ c.from_residual.result p.0 p.1
+
+pub returns-in-Some : goal.returns-in-Some
+returns-in-Some g c = task-ends _ c.in-Some.task _ _ c.perform.result (sym c.in_ok-task.ensures ∙ c.in-Some.is) (c.perform.ensures (folder (g.C.Tree.files c.args.cache.now) (g.C.Tree.faults c.args.cache.now)))

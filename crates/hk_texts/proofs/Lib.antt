@@ -1,0 +1,2 @@
+pub mod ReportNumbers
+pub mod Views

@@ -1,0 +1,10 @@
+//! The texts that a run prints.
+#![tactic(auto)]
+
+mod done;
+mod refusals;
+mod report;
+
+pub use done::{items_line, summary};
+pub use refusals::{plan_line, rules_line};
+pub use report::report_text;

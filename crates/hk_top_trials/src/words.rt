@@ -1,0 +1,48 @@
+// Words and the command that they are.
+use hk_base::NoMemory;
+use hk_words::{Command, command, usage_text};
+use std::alloc::Global;
+use std::test::Fail;
+
+/// The command that the words of a line are.
+fn read(alloc: Global, line: &str) -> Result<Option<Command>, NoMemory> {
+    let mut words = Vec::new(alloc);
+    for word in line.split_whitespace() {
+        words.push(String::from_str(alloc, word)?)?;
+    }
+    command(alloc, &words)
+}
+
+#[test]
+fn words_are_a_command_or_none(rt: HostRuntime) -> Result<(), Fail> {
+    for (line, wanted) in [
+        ("build", Some(Command::Build)),
+        ("check", Some(Command::Check)),
+        ("", None),
+        ("make", None),
+        ("Build", None),
+        ("--build", None),
+        ("help", None),
+        ("--help", None),
+        ("build -h", None),
+        ("build --help", None),
+        ("build --", None),
+        ("build --x", None),
+        ("build check", None),
+        ("build --workers", None),
+        ("build --workers 0", None),
+        ("build --workers 65", None),
+        ("build --trace --trace", None),
+        ("check x", None),
+        ("check -- x", None),
+    ] {
+        assert!(rt; read(rt.alloc(), line)? == wanted, "{line}");
+    }
+    Ok(())
+}
+
+#[test]
+fn usage_has_a_line_for_each_command(rt: HostRuntime) {
+    let text: &[u8] = b"usage: hakyll_cli build\n       hakyll_cli check\n";
+    assert_eq!(rt; usage_text(), text);
+}

@@ -1,0 +1,6 @@
+pub mod Arguments
+pub mod Given
+pub mod Leaf
+pub mod Numbers
+pub mod Usage
+pub mod Words

@@ -1,0 +1,7 @@
+-- What is printed where the words are no command.
+use Rattle.std.specs.Prelude.{codes}
+use Rattle.hk_base.specs.Bytes.{Bytes}
+
+-- a line for each command, with what it takes
+abbrev pub usage : Bytes
+usage = codes "usage: hakyll_cli build\n       hakyll_cli check\n"

@@ -1,0 +1,10 @@
+// What is printed where the words are no command.
+ghost use Rattle.std.specs.Prelude.{◌≡◌};
+ghost use Rattle.hk_words.specs.Usage.{usage};
+
+/// How the program is used: a line for each command, with what it takes, and an LF after each. Constant; takes no memory.
+pub fn usage_text() -> &'static [u8]
+    ensures { result.now ≡ usage }
+{
+    b"usage: hakyll_cli build\n       hakyll_cli check\n"
+}
