@@ -1,0 +1,2 @@
+//! What a build leaves for the next one.
+#![tactic(auto)]
