@@ -1,6 +1,5 @@
 // Threads that raise a pile, each in its turn.
 ghost use Rattle.std.specs.Prelude.{◌≡◌, ◌≤◌, length, Some, IfOk, All};
-ghost use denote.Param.Send.{IsSync};
 ghost use Rattle.hk_lock.specs.View.{IsIdle, IsSeatFor, IsFirstSeat};
 
 use hk_base::NoMemory;

@@ -6,6 +6,7 @@ use hk_base::NoMemory;
 use hk_lock::Lawful;
 use hk_ready::{Pass, Queue};
 use std::alloc::Global;
+use std::snapshot::Snapshot;
 use std::sync::Wait;
 use std::sync::atomic::{AtomicU64, Ordering};
 use std::test::Fail;
@@ -169,17 +170,18 @@ fn jobs(
     Ok(all)
 }
 
-/// How often each number below the bound came out of a queue of so many places, under so many pushers and as many poppers.
+/// The first number below the bound that didn't come once out of a queue of so many places, under so many pushers and as
+/// many poppers.
 fn pass_through<R: Threads + Wait + Sync>(
     rt: &R,
     alloc: Global,
     places: usize,
     pushers: u32,
     bound: usize,
-) -> Result<Vec<AtomicU64>, NoMemory>
+) -> Result<Option<usize>, NoMemory>
     requires { (0 < places) × (0 < pushers) }
 {
-    let (queue, first) = Queue::new(alloc, bound, places)?;
+    let (queue, first) = Queue::under(alloc, &Snapshot::of(&bound), places)?;
     let jobs = jobs(alloc, &queue, first, bound, 2 * pushers as usize)?;
     let trial = Trial {
         queue,
@@ -195,16 +197,19 @@ fn pass_through<R: Threads + Wait + Sync>(
             requires { IsPassFor shared.now.queue.id (Some (length shared.now.pops.items)) job.pass × (0 < shared.now.pushers) }
         { shared.work(rt, job) },
     )?;
-    Ok(trial.pops)
+    let counts = &trial.pops;
+    Ok(
+        counts
+            .iter()
+            .position(|count| count.load(Ordering::SeqCst) != 1),
+    )
 }
 
 #[test]
 fn each_number_comes_out_once(rt: HostRuntime) -> Result<(), Fail> {
     for (places, pushers) in [(1, 1), (128, 4), (128, 8)] {
-        let pops = pass_through(&rt, rt.alloc(), places, pushers, 40_000)?;
-        for count in &pops {
-            assert_eq!(rt; count.load(Ordering::SeqCst), 1);
-        }
+        let amiss = pass_through(&rt, rt.alloc(), places, pushers, 40_000)?;
+        assert_eq!(rt; amiss, None, "{pushers} pushers, {places} places");
     }
     Ok(())
 }
