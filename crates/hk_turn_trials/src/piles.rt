@@ -1,6 +1,5 @@
 // Threads that raise a pile, each in its turn.
 ghost use Rattle.std.specs.Prelude.{◌≡◌, ◌≤◌, length, Some, IfOk, All};
-ghost use denote.Param.Send.{IsSync};
 ghost use Rattle.hk_lock.specs.View.{IsIdle, IsSeatFor, IsFirstSeat};
 
 use hk_base::NoMemory;
@@ -14,8 +13,8 @@ use std::thread::Threads;
 
 /// A pile, and the marks on it, as many as it is high. It may be as high as the key says.
 #[derive(Drop)]
-struct Pile {
-    height: u64,
+pub(crate) struct Pile {
+    pub(crate) height: u64,
     marks: u64,
 }
 
@@ -26,6 +25,15 @@ impl Lawful<u64> for Pile {
 }
 
 impl Pile {
+    pub(crate) fn new() -> Pile
+        ensures { (result.height ≡ 0) × (result.marks ≡ 0) }
+    {
+        Pile {
+            height: 0,
+            marks: 0,
+        }
+    }
+
     /// One higher, unless it is as high as it may be.
     fn raise(&mut self, most: u64)
         requires { (self.old.marks ≡ self.old.height) × (self.old.height ≤ most) }
@@ -44,12 +52,13 @@ impl Pile {
 
 /// A seat that comes back from its thread, and whether each pile that it took was lawful.
 #[derive(Drop)]
-struct Raised {
-    seat: Seat<Pile, u64>,
-    all_lawful: bool,
+pub(crate) struct Raised {
+    pub(crate) seat: Seat<Pile, u64>,
+    pub(crate) all_lawful: bool,
 }
 
-fn raise<R: Wait>(
+/// Takes the pile so often, and raises it each time.
+pub(crate) fn raise<R: Wait>(
     rt: &R,
     lock: &TurnLock<Pile, u64>,
     seat: Seat<Pile, u64>,
@@ -110,14 +119,7 @@ fn pile_up<R: Threads + Wait + Sync>(
     most: u64,
     times: u32,
 ) -> Result<(Pile, bool), NoMemory> {
-    let (lock, mut first) = TurnLock::new(
-        alloc,
-        most,
-        Pile {
-            height: 0,
-            marks: 0,
-        },
-    )?;
+    let (lock, mut first) = TurnLock::new(alloc, most, Pile::new())?;
     let jobs = seats(alloc, &lock, &mut first, most, workers)?;
     let shared = &lock;
     let back = thread::map_vec(
@@ -134,10 +136,10 @@ fn pile_up<R: Threads + Wait + Sync>(
 
 #[test]
 fn each_turn_finds_the_last_ones_pile(rt: HostRuntime) -> Result<(), Fail> {
-    for workers in [1, 2, 4] {
-        let (pile, all_lawful) = pile_up(&rt, rt.alloc(), workers, 9_000, 2_000)?;
+    for workers in [1, 2, 4, 16] {
+        let (pile, all_lawful) = pile_up(&rt, rt.alloc(), workers, 200_000, 10_000)?;
         assert!(rt; all_lawful);
-        assert_eq!(rt; pile.height, 2_000 * workers as u64);
+        assert_eq!(rt; pile.height, 10_000 * workers as u64);
     }
     Ok(())
 }

@@ -1,5 +1,5 @@
-// Small numbers that go round among threads.
-ghost use Rattle.std.specs.Prelude.{◌≡◌, ◌≤◌, Some, IfOk, All};
+// Small numbers that some threads push into a queue and others pop.
+ghost use Rattle.std.specs.Prelude.{◌≡◌, ◌<◌, length, Some, IfOk, All};
 ghost use Rattle.hk_ready.specs.View.{IsPassFor};
 
 use hk_base::NoMemory;
@@ -8,136 +8,219 @@ use hk_ready::{Pass, Queue};
 use std::alloc::Global;
 use std::snapshot::Snapshot;
 use std::sync::Wait;
+use std::sync::atomic::{AtomicU64, Ordering};
 use std::test::Fail;
 use std::thread;
-use std::thread::Threads;
+use std::thread::{Threads, yield_now};
 
-/// A number that is at most the key.
+/// A number that is below the key.
 #[derive(Drop)]
 struct Small {
-    number: u64,
+    number: usize,
 }
 
-impl Lawful<u64> for Small {
-    ghost use Rattle.std.specs.Prelude.{◌≤◌};
+impl Lawful<usize> for Small {
+    ghost use Rattle.std.specs.Prelude.{◌<◌};
 
-    ghost is_lawful = { λ most small. small.number ≤ most };
+    ghost is_lawful = { λ bound small. small.number < bound };
 }
 
-// Pushes the greatest number, and takes numbers while the queue is full. What it took, added up.
+/// What a thread does.
+#[derive(Clone, Copy)]
+enum Role {
+    /// It pushes the numbers that leave this remainder by the number of pushers.
+    Pusher(usize),
+    Popper,
+}
+
+impl Role {
+    /// Pushers and poppers by turns, as many of the one as of the other.
+    fn at(place: usize) -> Role {
+        if place % 2 == 0 {
+            Role::Pusher(place / 2)
+        } else {
+            Role::Popper
+        }
+    }
+}
+
+/// What a thread is given.
+#[derive(Drop)]
+struct Job {
+    pass: Pass<Small, usize>,
+    role: Role,
+}
+
+/// What the threads share.
+#[derive(Drop)]
+struct Trial {
+    queue: Queue<Small, usize>,
+    /// How often each number was popped. There are as many as the key says.
+    pops: Vec<AtomicU64>,
+    pushers: usize,
+    /// How many pushers aren't done.
+    pushing: AtomicU64,
+}
+
+// Pushes a number as soon as there is a place.
 fn push_one<R: Wait>(
     rt: &R,
-    queue: &Queue<Small, u64>,
-    pass: &mut Pass<Small, u64>,
-    most: u64,
-) -> u64
-    requires { IsPassFor queue.now.id (Some most) pass.old }
-    ensures { IsPassFor queue.now.id (Some most) pass.new }
+    queue: &Queue<Small, usize>,
+    pass: &mut Pass<Small, usize>,
+    bound: usize,
+    number: usize,
+)
+    requires pass { IsPassFor queue.now.id (Some bound) pass.old }
+    requires lawful { number < bound }
+    ensures { IsPassFor queue.now.id (Some bound) pass.new }
 {
-    let mut taken = 0u64;
     for _ in rt.forever() {
-        if queue.push(rt, pass, Small { number: most }).is_ok() {
-            return taken;
+        if queue.push(rt, pass, Small { number }).is_ok() {
+            return;
         }
-        if let Some(found) = queue.pop(rt, pass) {
-            taken = taken.wrapping_add(found.number);
-        }
+        yield_now();
     }
     unreachable!()
 }
 
-// What one thread took that pushed so often.
-fn pass_on<R: Wait>(
+// Pops a number and counts it. Whether there was one.
+fn pop_one<R: Wait>(
     rt: &R,
-    queue: &Queue<Small, u64>,
-    pass: Pass<Small, u64>,
-    most: u64,
-    times: u32,
-) -> u64
-    requires { IsPassFor queue.now.id (Some most) pass }
+    queue: &Queue<Small, usize>,
+    pass: &mut Pass<Small, usize>,
+    pops: &[AtomicU64],
+) -> bool
+    requires { IsPassFor queue.now.id (Some (length pops.now)) pass.old }
+    ensures { IsPassFor queue.now.id (Some (length pops.now)) pass.new }
 {
-    let mut pass = pass;
-    let mut taken = 0u64;
-    for _ in 0..times {
-        taken = taken.wrapping_add(push_one(rt, queue, &mut pass, most));
-    }
-    taken
+    let Some(small) = queue.pop(rt, pass) else {
+        yield_now();
+        return false;
+    };
+    pops[small.number].fetch_add(1, Ordering::SeqCst);
+    true
 }
 
-fn passes(
-    alloc: Global,
-    queue: &Queue<Small, u64>,
-    first: &mut Pass<Small, u64>,
-    most: u64,
-    count: usize,
-) -> Result<Vec<Pass<Small, u64>>, NoMemory>
-    requires { IsPassFor queue.now.id (Some most) first.old }
-    ensures first { IfOk result (λ v. IsPassFor queue.now.id (Some most) first.new) }
-    ensures passes { IfOk result (λ v. All (IsPassFor queue.now.id (Some most)) v.items) }
+impl Trial {
+    // Pushes each number that leaves this remainder.
+    fn push_share<R: Wait>(&self, rt: &R, pass: Pass<Small, usize>, remainder: usize)
+        requires pass { IsPassFor self.now.queue.id (Some (length self.now.pops.items)) pass }
+        requires pushers { 0 < self.now.pushers }
+    {
+        let mut pass = pass;
+        let bound = self.pops.len();
+        for number in (remainder..bound).step_by(self.pushers) {
+            push_one(rt, &self.queue, &mut pass, bound, number);
+        }
+        self.pushing.fetch_sub(1, Ordering::SeqCst);
+    }
+
+    // Pops until nothing is left and no pusher is at work.
+    fn pop_all<R: Wait>(&self, rt: &R, pass: Pass<Small, usize>)
+        requires { IsPassFor self.now.queue.id (Some (length self.now.pops.items)) pass }
+    {
+        let mut pass = pass;
+        for _ in rt.forever() {
+            let all_pushed = self.pushing.load(Ordering::SeqCst) == 0;
+            let found = pop_one(rt, &self.queue, &mut pass, &self.pops);
+            if all_pushed && !found {
+                return;
+            }
+        }
+    }
+
+    fn work<R: Wait>(&self, rt: &R, job: Job)
+        requires pass { IsPassFor self.now.queue.id (Some (length self.now.pops.items)) job.pass }
+        requires pushers { 0 < self.now.pushers }
+    {
+        match job.role {
+            Role::Pusher(remainder) => self.push_share(rt, job.pass, remainder),
+            Role::Popper => self.pop_all(rt, job.pass),
+        }
+    }
+}
+
+fn zeros(alloc: Global, count: usize) -> Result<Vec<AtomicU64>, NoMemory>
+    ensures { IfOk result (λ v. length v.items ≡ count) }
 {
     let mut all = Vec::with_capacity(alloc, count)?;
     while all.len() < count {
-        all.push_reserved(queue.split_pass(alloc, first)?);
+        all.push_reserved(AtomicU64::new(0));
     }
     Ok(all)
 }
 
-// What the queue still holds, added up.
-fn left<R: Wait>(rt: &R, queue: &Queue<Small, u64>, pass: Pass<Small, u64>) -> u64
-    requires { pass.queue ≡ queue.now.id }
+fn jobs(
+    alloc: Global,
+    queue: &Queue<Small, usize>,
+    first: Pass<Small, usize>,
+    bound: usize,
+    count: usize,
+) -> Result<Vec<Job>, NoMemory>
+    requires { IsPassFor queue.now.id (Some bound) first }
+    ensures { IfOk result (λ v. All (λ j. IsPassFor queue.now.id (Some bound) j.pass) v.items) }
 {
-    let mut pass = pass;
-    let mut sum = 0u64;
-    for _ in rt.forever() {
-        let Some(found) = queue.pop(rt, &mut pass) else {
-            break;
-        };
-        sum = sum.wrapping_add(found.number);
+    let mut first = first;
+    let mut all = Vec::with_capacity(alloc, count)?;
+    while all.len() < count {
+        let role = Role::at(all.len());
+        let pass = queue.split_pass(alloc, &mut first)?;
+        all.push_reserved(Job { pass, role });
     }
-    sum
+    Ok(all)
 }
 
-/// What so many threads took, and what was left, added up.
-fn go_round<R: Threads + Wait + Sync>(
+/// The first number below the bound that didn't come once out of a queue of so many places, under so many pushers and as
+/// many poppers.
+fn pass_through<R: Threads + Wait + Sync>(
     rt: &R,
     alloc: Global,
-    workers: usize,
-    most: u64,
-    times: u32,
-) -> Result<u64, NoMemory> {
-    let (queue, mut first) = Queue::under(alloc, &Snapshot::of(&most), 8)?;
-    let jobs = passes(alloc, &queue, &mut first, most, workers)?;
-    let shared = &queue;
-    let taken = thread::map_vec(
+    places: usize,
+    pushers: u32,
+    bound: usize,
+) -> Result<Option<usize>, NoMemory>
+    requires { (0 < places) × (0 < pushers) }
+{
+    let (queue, first) = Queue::under(alloc, &Snapshot::of(&bound), places)?;
+    let jobs = jobs(alloc, &queue, first, bound, 2 * pushers as usize)?;
+    let trial = Trial {
+        queue,
+        pops: zeros(alloc, bound)?,
+        pushers: pushers as usize,
+        pushing: AtomicU64::new(u64::from(pushers)),
+    };
+    let shared = &trial;
+    thread::map_vec(
         rt,
         jobs,
-        &|pass: Pass<Small, u64>| -> u64
-            requires { IsPassFor shared.now.id (Some most) pass }
-        { pass_on(rt, shared, pass, most, times) },
+        &|job: Job|
+            requires { IsPassFor shared.now.queue.id (Some (length shared.now.pops.items)) job.pass × (0 < shared.now.pushers) }
+        { shared.work(rt, job) },
     )?;
-    let mut sum = left(rt, &queue, first);
-    for part in &taken {
-        sum = sum.wrapping_add(*part);
-    }
-    Ok(sum)
+    let counts = &trial.pops;
+    Ok(
+        counts
+            .iter()
+            .position(|count| count.load(Ordering::SeqCst) != 1),
+    )
 }
 
 #[test]
-fn nothing_is_lost(rt: HostRuntime) -> Result<(), Fail> {
-    for workers in [1, 2, 4] {
-        let sum = go_round(&rt, rt.alloc(), workers, 3, 2_000)?;
-        assert_eq!(rt; sum, 6_000 * workers as u64);
+fn each_number_comes_out_once(rt: HostRuntime) -> Result<(), Fail> {
+    for (places, pushers) in [(1, 1), (128, 4), (128, 8)] {
+        let amiss = pass_through(&rt, rt.alloc(), places, pushers, 40_000)?;
+        assert_eq!(rt; amiss, None, "{pushers} pushers, {places} places");
     }
     Ok(())
 }
 
-fn number_of(small: Option<Small>) -> Option<u64> {
+fn number_of(small: Option<Small>) -> Option<usize> {
     small.map(|small| small.number)
 }
 
 #[test]
 fn one_place_holds_one(rt: HostRuntime) -> Result<(), Fail> {
-    let (queue, mut pass) = Queue::new(rt.alloc(), 9u64, 1)?;
+    let (queue, mut pass) = Queue::new(rt.alloc(), 9usize, 1)?;
     let first = queue.push(&rt, &mut pass, Small { number: 0 });
     let second = queue.push(&rt, &mut pass, Small { number: 1 });
     let third = queue.pop(&rt, &mut pass);

@@ -1,6 +1,0 @@
-use Rattle.std.proofs.Common.{Some}
-use Rattle.hk_ready.specs.View.{IsPassFor}
-use Rattle.hk_turn_trials.proofs.small.pass_on.Given as goal
-
-abbrev pub invariant-loop : goal.invariant-loop
-invariant-loop g l = IsPassFor l.queue.id (Some l.most) l.pass
