@@ -19,22 +19,30 @@ module _ {K : Type 0} where
   abbrev pub is_first : View K → Bool
   is_first v = v.is_first
 
-  -- a seat carries the key or is spent, it has the board exactly where it has the turn, and the first one knows how many others are live
+  -- what holds of each seat's view
   pub record SeatFits (key : K) (live : ℕ) (v : View K) : Type 0 where
+    -- all views but spent ones carry one key
     pub keyed : is_live v ≡ true → v.key ≡ Some key
     pub spent : is_live v ≡ false → v ≡ spent_view
+    -- a view has the board exactly where it has the turn
     pub board : v.has_board ≡ v.has_turn
+    -- the first seat's count of lent seats is that of all others that aren't spent
     pub others : v.is_first ≡ true → v.lent + 1 ≡ live
 
 module _ {B K : Type 0} (lawful : K → B → Type 0) where
+  -- what holds between any two steps
   pub record IsLockState (key : K) (s : State (Option B) (View K)) : Type 0 where
     pub one_word : length s.words ≡ 1
     pub one_slot : length s.homes ≡ 1
     pub fits : (n : ℕ) (v : View K) → get_elem? s.views n ≡ some v → SeatFits key (count_by is_live s.views) v
+    -- the word is 0 or 1, and 1 exactly where one view has the turn: never do two have it
     pub turns : count_by has_turn s.views ≡ slice_index s.words 0
     pub one_turn : slice_index s.words 0 ≤ 1
+    -- one view is the first seat's, and it isn't spent
     pub one_first : count_by is_first s.views ≡ 1
+    -- a slot that is at home holds a board that is lawful for the key
     pub home : slice_index s.words 0 ≡ 0 → (b : B) × (get_elem? s.homes 0 ≡ some (some (Some b))) × lawful key b
+    -- and it is at home exactly where nobody has the turn
     pub away : slice_index s.words 0 ≡ 1 → get_elem? s.homes 0 ≡ some none
 
   -- the turn was taken, with the slot, in which a lawful board lies
