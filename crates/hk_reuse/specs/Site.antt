@@ -1,0 +1,69 @@
+-- A plan's items, and what a clean build makes of them.
+use Rattle.std.specs.Prelude.{◌≡◌, ℕ, ◌<◌, List, map, codes, Some, None}
+use Rattle.hk_base.specs.Bytes.{Bytes}
+use Rattle.hk_base.specs.Identifier.{Ident}
+use Rattle.hk_chain.specs.Layout.{Shape, IsShape}
+use Rattle.hk_chain.specs.Snapshots.{AreSnapshots}
+use Rattle.hk_fix.specs.Pages.{Pages, no_page}
+use Rattle.hk_chain.specs.declared.page.Page.{Page}
+use Rattle.hk_fix.specs.Task.{Run, run}
+use Rattle.hk_fix.specs.Fix.{Seeds, Ending, fix, status}
+use Rattle.hk_fix.specs.Table.{Table, IsTable}
+use Rattle.hk_fix.specs.Deeds.{Deeds, pair_or, task_of, AreProper}
+
+abbrev pub final_name : Bytes
+final_name = codes "_final"
+
+-- what entries are held against: of each item its identifier, the names under which it saves on its way, and the text of
+-- its fingerprint
+pub record Items : Type 0 where
+  pub table : Table
+  pub id : ℕ → Ident
+  pub names : ℕ → List Bytes
+  pub text : ℕ → Bytes
+
+-- the pair of a page of an item's own
+abbrev pub own_pair : Items → ℕ → Bytes → ℕ
+own_pair items i name = pair_or items.table (record { id = items.id i; name = name })
+
+-- the pairs of an item on its way
+abbrev pub own_pairs : Items → ℕ → List ℕ
+own_pairs items i = map (own_pair items i) (items.names i)
+
+-- the numbers of items and pairs are those of their identifiers and keys, and each item saves its pairs in order
+pub record AreItems (items : Items) : Type 0 where
+  pub table : IsTable items.table
+  pub in_order : (i : ℕ) → i < items.table.layout.items → AreSnapshots items.table.layout i (own_pairs items i)
+  pub found : (id : Ident) (i : ℕ) → items.table.find id ≡ Some i → (i < items.table.layout.items) × (items.id i ≡ id)
+  pub numbered : (i : ℕ) → i < items.table.layout.items → items.table.find (items.id i) ≡ Some i
+
+-- the items of a plan with what their compilers do
+pub record Site : Type 0 where
+  pub deeds : Deeds
+  pub text : ℕ → Bytes
+
+abbrev pub items_of : Site → Items
+items_of site = record { table = site.deeds.table; id = site.deeds.id; names = site.deeds.names; text = site.text }
+
+abbrev pub shape_of : Site → Shape
+shape_of site = site.deeds.table.layout
+
+-- the pairs stand item after item, the deeds are proper, and an item is found by its identifier
+pub record IsSite (site : Site) : Type 0 where
+  pub shape : IsShape (shape_of site)
+  pub proper : AreProper site.deeds
+  pub numbered : (i : ℕ) → i < (shape_of site).items → site.deeds.table.find (site.deeds.id i) ≡ Some i
+
+abbrev pub clean_run : Site → ℕ → Pages → Run Page
+clean_run site i k = run (task_of site.deeds i) k
+
+abbrev pub no_seeds : Seeds
+no_seeds = record { pages = no_page; facts = λ i. None }
+
+-- the pages of a clean build
+abbrev pub built : Site → Pages
+built site = fix (shape_of site) (clean_run site) no_seeds
+
+-- how its items end
+abbrev pub endings : Site → ℕ → Ending
+endings site = status (shape_of site) (clean_run site) no_seeds

@@ -1,0 +1,2 @@
+//! Rebuilds that reuse stored results equal clean builds.
+#![tactic(auto)]
