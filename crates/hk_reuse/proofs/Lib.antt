@@ -1,1 +1,4 @@
--- The proofs of the theorem on two plans.
+pub mod Central
+pub mod Lists
+pub mod Logs
+pub mod Tests
