@@ -1,4 +1,5 @@
 pub mod Central
+pub mod Finishes
 pub mod Lists
 pub mod Logs
 pub mod Tests
