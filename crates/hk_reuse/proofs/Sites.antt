@@ -283,7 +283,7 @@ module _ (dig : Digests) (old new : Site) (o : IsSite old) (n : IsSite new) (apa
     placed [] h = tt
     placed (p ∷ ps) h = (o.proper.table.placed p h.0, placed ps h.1)
 
-    fitting-same : fits dig (items_of new) i entry ≡ true → SameRun (shape_of new) i (run (replay_by dig new.deeds.table (new.deeds.id i) (task_of new.deeds i) entry) k) (clean_run new i k)
+    fitting-same : fits dig (items_of new) i entry ≡ true → SameRun (shape_of new) i (run (replay_by dig (items_of new) i (task_of new.deeds i) entry) k) (clean_run new i k)
     fitting-same t =
         let c = and-both (print_fits && names_fit && patterns_fit) marks_fit t in
         let b = and-both (print_fits && names_fit) patterns_fit c.0 in
@@ -319,9 +319,9 @@ module _ (dig : Digests) (old new : Site) (o : IsSite old) (n : IsSite new) (apa
     abbrev whole0 : ℕ → List Mark
     whole0 j = whole_log (shape_of old) j (clean_run old j (built old))
 
-    by-fit : (e : EntryView) → (fits dig (items_of new) i e ≡ true → SameRun (shape_of new) i (run (replay_by dig new.deeds.table (new.deeds.id i) (task_of new.deeds i) e) k) (clean_run new i k)) → SameRun (shape_of new) i (run (replay_of dig new (image dig old) i (Some e)) k) (clean_run new i k)
+    by-fit : (e : EntryView) → (fits dig (items_of new) i e ≡ true → SameRun (shape_of new) i (run (replay_by dig (items_of new) i (task_of new.deeds i) e) k) (clean_run new i k)) → SameRun (shape_of new) i (run (replay_of dig new (image dig old) i (Some e)) k) (clean_run new i k)
     by-fit e f =
-        elim (fits dig (items_of new) i e) as (λ b. fits dig (items_of new) i e ≡ b → SameRun (shape_of new) i (run (cond b (replay_by dig new.deeds.table (new.deeds.id i) (task_of new.deeds i) e) (task_of new.deeds i)) k) (clean_run new i k)) [
+        elim (fits dig (items_of new) i e) as (λ b. fits dig (items_of new) i e ≡ b → SameRun (shape_of new) i (run (cond b (replay_by dig (items_of new) i (task_of new.deeds i) e) (task_of new.deeds i)) k) (clean_run new i k)) [
           | true ↦ λ t. f t
           | false ↦ λ t. same-run (shape_of new) i (clean_run new i k)
         ] refl
@@ -353,7 +353,7 @@ module _ (dig : Digests) (old new : Site) (o : IsSite old) (n : IsSite new) (apa
 
   -- so the rounds are the same, one by one
   abbrev lay : Shape
-  lay = (shape_of new)
+  lay = shape_of new
 
   abbrev replaying : ℕ → Pages → Run Page
   replaying = replay_run dig new (image dig old)

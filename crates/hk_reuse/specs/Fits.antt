@@ -25,7 +25,9 @@ mark_fits dig table (stored name page) = true
 module _ (dig : Digests) (items : Items) (i : ℕ) (e : EntryView) where
   -- the fingerprint, the names of the saved pages and the matches are the item's
   abbrev pub is_own : Bool
-  is_own = bytes_eq e.print (dig.text (items.text i)) && pointwise bytes_eq (saved_names e.marks) (items.names i ++ final_name ∷ []) && list_all (pattern_fits items.table) e.patterns
+  is_own =
+      bytes_eq e.print (dig.text (items.text i)) && pointwise bytes_eq (saved_names e.marks) (items.names i ++ final_name ∷ [])
+      && list_all (pattern_fits items.table) e.patterns
 
   -- and each asked page may be asked for
   abbrev pub fits : Bool

@@ -32,7 +32,7 @@ module _ (dig : Digests) (items : Items) (k : Pages) where
   -- an item's entry fits and goes through all marks
   abbrev pub kept_by : ℕ → Option EntryView → Bool
   kept_by i None = false
-  kept_by i (Some e) = fits dig items i e && is_through (run (attempt_of dig items.table (items.id i) e) k).end
+  kept_by i (Some e) = fits dig items i e && is_through (run (attempt_of dig items i e) k).end
 
   abbrev pub kept_among : Entries → ℕ → Bool
   kept_among entries i = nat_lt i items.table.layout.items && kept_by i (entries (items.id i))

@@ -24,11 +24,10 @@ finish_run clean patterns (through x) = record { log = map (λ n. note (used n))
 finish_run clean patterns (broke kept) = record { log = drop_saved kept clean.log; end = clean.end }
 
 module _ (dig : Digests) (items : Items) (entries : Entries) (inner : ℕ → Pages → Run Page) where
-  abbrev pub attempted : ℕ → EntryView → Pages → Run Attempt
-  attempted i e k = run (attempt_of dig items.table (items.id i) e) k
-
   abbrev pub over_entry : ℕ → EntryView → Pages → Run Page
-  over_entry i e k = follow (attempted i e k).log (attempted i e k).end (finish_run (inner i k) (pattern_numbers items.table e))
+  over_entry i e k =
+      let begun = run (attempt_of dig items i e) k in
+      follow begun.log begun.end (finish_run (inner i k) (pattern_numbers items.table e))
 
   abbrev pub over_by : ℕ → Option EntryView → Pages → Run Page
   over_by i None k = inner i k

@@ -19,7 +19,7 @@ use Rattle.hk_reuse.specs.Site.{Site, items_of, shape_of, no_seeds, built, IsSit
 module _ (dig : Digests) (site : Site) (entries : Entries) where
   abbrev pub replay_of : ℕ → Option EntryView → Task Page
   replay_of i None = task_of site.deeds i
-  replay_of i (Some e) = cond (fits dig (items_of site) i e) (replay_by dig site.deeds.table (site.deeds.id i) (task_of site.deeds i) e) (task_of site.deeds i)
+  replay_of i (Some e) = cond (fits dig (items_of site) i e) (replay_by dig (items_of site) i (task_of site.deeds i) e) (task_of site.deeds i)
 
   abbrev pub replay : ℕ → Task Page
   replay i = replay_of i (entries (site.deeds.id i))

@@ -1,7 +1,6 @@
 -- The run of an item that has an entry: the recorded asks and saves in order, as long as the answered pages are those that
 -- the entry's run got.
 use Rattle.std.specs.Prelude.{ℕ, Bool, true, false, cond, ◌&&◌, List, [], ◌∷◌, map, bytes_eq}
-use Rattle.hk_base.specs.Bytes.{Bytes}
 use Rattle.hk_base.specs.Identifier.{Ident}
 use Rattle.hk_chain.specs.declared.page.Page.{Page}
 use Rattle.hk_fix.specs.Task.{Task, gives, fails, asks, notes, ◌▷◌, used, saved}
@@ -11,6 +10,7 @@ use Rattle.hk_fix.specs.Deeds.{pair_or}
 use Rattle.hk_store.specs.Digests.{Digests}
 use Rattle.hk_store.specs.Entry.{AskView, MarkView, asked, stored, EntryView}
 use Rattle.hk_reuse.specs.Entries.{front, last_page}
+use Rattle.hk_reuse.specs.Site.{pair_named, Items}
 
 -- how far an entry goes: to its finished page, or to a group with another page; then the pairs that were saved before, the
 -- last first
@@ -49,18 +49,16 @@ finish clean patterns (through x) = note_all patterns (gives x)
 finish clean patterns (broke kept) = without kept clean
 
 module _ (dig : Digests) (table : Table) (own : Ident) where
-  abbrev pub pair_named : Bytes → ℕ
-  pair_named name = pair_or table (record { id = own; name = name })
-
   -- the marks but the last, with the finished page and the pairs that were saved before
   abbrev pub attempt : Page → List ℕ → List MarkView → Task Attempt
   attempt x kept [] = gives (through x)
   attempt x kept (asked views ∷ marks) = asks (asked_pairs table views) (λ xs. cond (same_pages dig xs views) (attempt x kept marks) (gives (broke kept)))
-  attempt x kept (stored name page ∷ marks) = notes (saved (pair_named name) page) (attempt x (pair_named name ∷ kept) marks)
+  attempt x kept (stored name page ∷ marks) = notes (saved (pair_named table own name) page) (attempt x (pair_named table own name ∷ kept) marks)
 
-  abbrev pub attempt_of : EntryView → Task Attempt
-  attempt_of e = attempt (last_page e.marks) [] (front e.marks)
+-- those of the entry of an item
+abbrev pub attempt_of : Digests → Items → ℕ → EntryView → Task Attempt
+attempt_of dig items i e = attempt dig items.table (items.id i) (last_page e.marks) [] (front e.marks)
 
-  -- the task of an item whose entry fits
-  abbrev pub replay_by : Task Page → EntryView → Task Page
-  replay_by clean e = attempt_of e ▷ finish clean (pattern_numbers table e)
+-- the task of an item whose entry fits
+abbrev pub replay_by : Digests → Items → ℕ → Task Page → EntryView → Task Page
+replay_by dig items i clean e = attempt_of dig items i e ▷ finish clean (pattern_numbers items.table e)

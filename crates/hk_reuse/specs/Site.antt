@@ -14,6 +14,10 @@ use Rattle.hk_fix.specs.Deeds.{Deeds, pair_or, task_of, AreProper}
 abbrev pub final_name : Bytes
 final_name = codes "_final"
 
+-- the pair of a page of an item's own
+abbrev pub pair_named : Table → Ident → Bytes → ℕ
+pair_named table own name = pair_or table (record { id = own; name = name })
+
 -- what entries are held against: of each item its identifier, the names under which it saves on its way, and the text of
 -- its fingerprint
 pub record Items : Type 0 where
@@ -22,13 +26,9 @@ pub record Items : Type 0 where
   pub names : ℕ → List Bytes
   pub text : ℕ → Bytes
 
--- the pair of a page of an item's own
-abbrev pub own_pair : Items → ℕ → Bytes → ℕ
-own_pair items i name = pair_or items.table (record { id = items.id i; name = name })
-
 -- the pairs of an item on its way
 abbrev pub own_pairs : Items → ℕ → List ℕ
-own_pairs items i = map (own_pair items i) (items.names i)
+own_pairs items i = map (pair_named items.table (items.id i)) (items.names i)
 
 -- the numbers of items and pairs are those of their identifiers and keys, and each item saves its pairs in order
 pub record AreItems (items : Items) : Type 0 where
