@@ -1,5 +1,6 @@
 pub mod Central
 pub mod Finishes
+pub mod Laws
 pub mod Lists
 pub mod Logs
 pub mod Sites
