@@ -3,5 +3,6 @@ pub mod Finishes
 pub mod Laws
 pub mod Lists
 pub mod Logs
+pub mod Over
 pub mod Sites
 pub mod Tests
