@@ -1,5 +1,9 @@
+pub mod Builds
 pub mod Central
 pub mod Finishes
+pub mod Histories
+pub mod Images
+pub mod Kepts
 pub mod Laws
 pub mod Lists
 pub mod Logs
