@@ -1,5 +1,6 @@
 pub mod Builds
 pub mod Central
+pub mod Cutoffs
 pub mod Finishes
 pub mod Histories
 pub mod Images
