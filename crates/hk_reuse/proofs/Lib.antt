@@ -6,6 +6,7 @@ pub mod Histories
 pub mod Images
 pub mod Kepts
 pub mod Laws
+pub mod Listings
 pub mod Lists
 pub mod Logs
 pub mod Over
