@@ -12,9 +12,12 @@ use Rattle.hk_fix.proofs.Orders.{clash}
 use Rattle.hk_fix.proofs.Traces.{status-facts}
 use Rattle.hk_store.specs.Digests.{Digests}
 use Rattle.hk_store.specs.Entry.{MarkView}
-use Rattle.hk_reuse.specs.Entries.{AskOnce, IsSave, LastSaves, IsFormed, AreFormed}
+use Rattle.hk_reuse.specs.Builds.{left}
+use Rattle.hk_reuse.specs.Entries.{Entries, AskOnce, IsSave, LastSaves, IsFormed, AreFormed}
 use Rattle.hk_reuse.specs.Image.{ask_view, mark_view, entry_with, entry_by, entry_at, entries_of, image}
 use Rattle.hk_reuse.specs.Site.{Items, AreItems, Site, items_of, shape_of, clean_run, no_seeds, built, endings, IsSite}
+use Rattle.hk_reuse.specs.Rebuilt.{rebuilt, reendings, replay_run}
+use Rattle.hk_reuse.proofs.Laws.{replay-laws}
 use Rattle.hk_reuse.proofs.Lists.{all-front, all-back}
 use Rattle.hk_reuse.proofs.Sites.{no-seeds, laws-of}
 use Rattle.hk_reuse.proofs.Tests.{keys-same}
@@ -94,3 +97,9 @@ pub image-formed : (dig : Digests) (site : Site) → IsSite site → AreFormed (
 image-formed dig site s =
     entries-formed dig (items_of site) (site-items site s) (endings site) (built site)
     (λ i f lt e. status-facts (shape_of site) (clean_run site) no_seeds (record { shape = s.shape; laws = laws-of site s; sown = no-seeds (shape_of site) }) (λ j g lt w. cc) i f lt e)
+
+-- whatever well-formed entries a build was over
+pub left-formed : (dig : Digests) (site : Site) (entries : Entries) → IsSite site → AreFormed entries → AreFormed (left dig site entries)
+left-formed dig site entries s formed =
+    entries-formed dig (items_of site) (site-items site s) (reendings dig site entries) (rebuilt dig site entries)
+    (λ i f lt e. status-facts (shape_of site) (replay_run dig site entries) no_seeds (record { shape = s.shape; laws = replay-laws dig site s entries formed; sown = no-seeds (shape_of site) }) (λ j g lt w. cc) i f lt e)

@@ -1,6 +1,7 @@
 pub mod Builds
 pub mod Central
 pub mod Cutoffs
+pub mod Examples
 pub mod Finishes
 pub mod Histories
 pub mod Images

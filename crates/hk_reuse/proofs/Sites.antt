@@ -374,7 +374,7 @@ module _ (dig : Digests) (old new : Site) (o : IsSite old) (n : IsSite new) (apa
       subst (λ (k : Pages). k p ≡ Some x) (fix-fixed lay (clean_run new) no_seeds n.shape (laws-of new n) (no-seeds lay))
       (round-grows lay (clean_run new) no_seeds n.shape (laws-of new n) (no-seeds lay) (known lay (clean_run new) no_seeds m) (built new) (known-within m) p x e)
 
-  known-same : (m : ℕ) → known lay replaying no_seeds m ≡ known lay (clean_run new) no_seeds m
+  pub known-same : (m : ℕ) → known lay replaying no_seeds m ≡ known lay (clean_run new) no_seeds m
   known-same zero = refl
   known-same (suc m) = ap (round lay replaying no_seeds) (known-same m) ∙ rounds-same (known lay (clean_run new) no_seeds m) (known-within m)
 

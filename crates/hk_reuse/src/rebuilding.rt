@@ -1,0 +1,33 @@
+// Why a build over stored entries is a clean build.
+ghost use Rattle.std.specs.Prelude.{◌≡◌, ℕ, ◌<◌, List, ◌∷◌};
+ghost use Rattle.hk_fix.specs.Fix.{known};
+ghost use Rattle.hk_fix.specs.Pages.{Pages, Extends};
+ghost use Rattle.hk_store.specs.Digests.{Digests};
+ghost use Rattle.hk_reuse.specs.Builds.{AreLinked, last_of, left, left_after};
+ghost use Rattle.hk_reuse.specs.Entries.{no_entries};
+ghost use Rattle.hk_reuse.specs.Image.{image};
+ghost use Rattle.hk_reuse.specs.Rebuilt.{ArePlansApart, SameRun, rebuilt, reendings, replay_run};
+ghost use Rattle.hk_reuse.specs.Site.{Site, built, clean_run, endings, no_seeds, shape_of};
+
+/// A build over the entries that a clean build of another plan left gives the pages of a clean build, ends each item as
+/// a clean build does, and leaves the entries of a clean build. For every map of known pages that the clean build has,
+/// the replay of an item has the same saves and the same end as its clean run, and where it is done the same facts; so
+/// the rounds of both builds are equal one by one. A build without entries is a clean build.
+pub fn rebuilds_are_clean()
+    ensures pages { (dig : Digests) (old new : Site) → ArePlansApart dig old new → rebuilt dig new (image dig old) ≡ built new }
+    ensures ends { (dig : Digests) (old new : Site) (i : ℕ) → ArePlansApart dig old new → i < (shape_of new).items
+        → reendings dig new (image dig old) i ≡ endings new i }
+    ensures entries { (dig : Digests) (old new : Site) → ArePlansApart dig old new → left dig new (image dig old) ≡ image dig new }
+    ensures runs { (dig : Digests) (old new : Site) (i : ℕ) (k : Pages) → ArePlansApart dig old new → i < (shape_of new).items
+        → Extends k (built new) → SameRun (shape_of new) i (replay_run dig new (image dig old) i k) (clean_run new i k) }
+    ensures rounds { (dig : Digests) (old new : Site) (n : ℕ) → ArePlansApart dig old new
+        → known (shape_of new) (replay_run dig new (image dig old)) no_seeds n ≡ known (shape_of new) (clean_run new) no_seeds n }
+    ensures anew { (dig : Digests) (site : Site) → rebuilt dig site no_entries ≡ built site }
+{}
+
+/// Any chain of builds that starts without entries, each over the entries that the one before left, leaves the entries
+/// of the last one's clean build.
+pub fn chains_of_builds_are_clean()
+    ensures { (dig : Digests) (site : Site) (sites : List Site) → AreLinked dig site sites
+        → left_after dig no_entries (site ∷ sites) ≡ image dig (last_of site sites) }
+{}
