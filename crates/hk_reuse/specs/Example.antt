@@ -62,7 +62,7 @@ text_at first i = cond (nat_eq i 0) first []
 
 -- by the text of the first item
 abbrev pub site : Bytes → Site
-site first = record { deeds = record { table = table; id = id_at; deed = λ i. deed_at i (text_at first i); names = λ i. [] }; text = text_at first }
+site first = record { deeds = record { table = table; id = id_at; deed = λ i. deed_at i (text_at first i); names = λ i. [] }; patterns = 0; text = text_at first }
 
 abbrev pub kind_code : Kind → ℕ
 kind_code kinds.Text = 0

@@ -1,4 +1,4 @@
-use Rattle.hk_reuse.proofs.Images.{image-formed, left-formed, entries-formed}
+use Rattle.hk_reuse.proofs.Images.{image-formed, left-formed, entries-formed, facts-below}
 use Rattle.hk_reuse.proofs.Listings.{entries-listed}
 use Rattle.hk_reuse.proofs.leaving.builds_leave_entries.Goals as goal
 
@@ -13,3 +13,6 @@ returns-clause-of_facts c = λ dig items ends k are facts. entries-formed dig it
 
 pub returns-clause-listed : goal.returns-clause-listed
 returns-clause-listed c = λ dig items ends k are. entries-listed dig items are ends k
+
+pub returns-clause-patterns : goal.returns-clause-patterns
+returns-clause-patterns c = λ lay run limit i facts given below lt e. facts-below lay run limit given below i facts lt e
