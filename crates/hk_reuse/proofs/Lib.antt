@@ -1,3 +1,4 @@
+pub mod Agreeing
 pub mod Builds
 pub mod Central
 pub mod Cutoffs
