@@ -149,7 +149,7 @@ pub patterns-done : (l : List Mark) (p : ℕ) (x : Page) → patterns_of (l ++ n
 patterns-done l p x = patterns_of-append l (note (saved p x) ∷ []) ∙ append-nil (patterns_of l)
 
 -- the patterns of a deed have the numbers that the plan gives their texts
-abbrev Numbered : Table → ℕ → Type 0
+abbrev pub Numbered : Table → ℕ → Type 0
 Numbered table n = table.number (table.pattern n) ≡ n
 
 module _ {A : Type 0} (table : Table) (own : Ident) (k : Pages) where
@@ -172,6 +172,9 @@ module _ {A : Type 0} (table : Table) (own : Ident) (k : Pages) where
   numbered (asking keys f) h = numbered-asked (resolve table keys) (λ xs. interpret table own (f (answers xs (traits_of table keys)))) (λ xs. numbered (f (answers xs (traits_of table keys))) (h (answers xs (traits_of table keys))))
   numbered (matching by f) h = (ap table.number h.0, numbered (f (table.matches by)) h.1)
   numbered (saving name x d) h = numbered-saved (table.pair (record { id = own; name = name })) x (interpret table own d) (numbered d h.1)
+
+pub numbered-run : (site : Site) → IsSite site → (i : ℕ) → i < (shape_of site).items → (k : Pages) → AllByRecursion (Numbered site.deeds.table) (patterns_of (clean_run site i k).log)
+numbered-run site s i lt k = numbered site.deeds.table (site.deeds.id i) k (site.deeds.deed i) (deeds-named site.deeds s.proper i lt)
 
 same-run : (lay : Shape) (i : ℕ) (c : Run Page) → SameRun lay i c c
 same-run lay i c = record { saves = refl; ends = refl; facts = λ x e. refl }
@@ -300,7 +303,7 @@ module _ (dig : Digests) (old new : Site) (o : IsSite old) (n : IsSite new) (apa
         let last : last_page entry.marks ≡ x = last-of marks0 last0 ∙ rw (final-built old o j old_lt x ends) refl in
         let new_laws : IsRun (shape_of new) (clean_run new) = laws-of new n in
         let p : AllByRecursion PatternFits (patterns_of log0) = all-of-firsts PatternFits [] (patterns_of log0) tt (fits-patterns (firsts [] (patterns_of log0)) b.1) in
-        let numbers : AllByRecursion Listed (patterns_of log0) = listed (patterns_of log0) (numbered old.deeds.table (old.deeds.id j) (built old) (old.deeds.deed j) (deeds-named old.deeds o.proper j old_lt)) p in
+        let numbers : AllByRecursion Listed (patterns_of log0) = listed (patterns_of log0) (numbered-run old o j old_lt (built old)) p in
         let asked : AllByRecursion (λ q. q < pairs (shape_of old)) (asks_of log0) = recursion_from_All (λ q. q < pairs (shape_of old)) (asks_of log0) (old_laws.within j (built old) old_lt) in
         let ready : Ready dig old.deeds.table new.deeds.table (new.deeds.id i) (built old) k x (clean_run old j (built old)) (task_of new.deeds i) [] [] = record {
           ends = ends;
