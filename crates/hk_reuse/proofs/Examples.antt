@@ -178,13 +178,15 @@ uses-own first = record { finals = λ i lt. finals i lt; patterns = λ i k lt. p
     patterns : (i : ℕ) (k : Pages) → i < 2 → (text : Bytes) → AllByRecursion (λ n. n < 0) (patterns_of (clean_run (site text) i k).log)
     patterns zero k lt [] = at (k 1)
       where
-        at : (o : Option Page) → AllByRecursion (λ n. n < 0) (patterns_of (answered (1 ∷ []) (lacking k (1 ∷ [])) (λ xs. run (interpret table first_id (loaded (answers xs (no_traits ∷ [])))) k) (with_page o (Some []))).log)
+        at : (o : Option Page)
+            → AllByRecursion (λ n. n < 0) (patterns_of (answered (1 ∷ []) (lacking k (1 ∷ [])) (λ xs. run (interpret table first_id (loaded (answers xs (no_traits ∷ [])))) k) (with_page o (Some []))).log)
         at None = tt
         at (Some x) = tt
     patterns zero k lt (byte ∷ body) = tt
     patterns (suc zero) k lt text = at (k 0)
       where
-        at : (o : Option Page) → AllByRecursion (λ n. n < 0) (patterns_of (answered (0 ∷ []) (lacking k (0 ∷ [])) (λ xs. run (interpret table second_id (loaded (answers xs (no_traits ∷ [])))) k) (with_page o (Some []))).log)
+        at : (o : Option Page)
+            → AllByRecursion (λ n. n < 0) (patterns_of (answered (0 ∷ []) (lacking k (0 ∷ [])) (λ xs. run (interpret table second_id (loaded (answers xs (no_traits ∷ [])))) k) (with_page o (Some []))).log)
         at None = tt
         at (Some x) = tt
     patterns (suc (suc i)) k lt text = absurd (omega (arith, lt))

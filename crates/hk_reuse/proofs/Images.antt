@@ -58,7 +58,8 @@ module _ (dig : Digests) (items : Items) (laws : IsTable items.table) (k : Pages
           let one : p ≡ q = cc in
           clash (nat_eq p q) f (eq-eqb p q one)
 
-      each : (qs : List ℕ) → AllByRecursion IsPair qs → AllByRecursion (λ q. nat_eq p q ≡ false) qs → AllByRecursion (λ key. same_key (items.table.key p) key ≡ false) (map (λ v. v.key) (map (ask_view dig items.table k) qs))
+      each : (qs : List ℕ) → AllByRecursion IsPair qs → AllByRecursion (λ q. nat_eq p q ≡ false) qs
+          → AllByRecursion (λ key. same_key (items.table.key p) key ≡ false) (map (λ v. v.key) (map (ask_view dig items.table k) qs))
       each [] a b = tt
       each (q ∷ qs) a b = (other q a.0 b.0 (same_key (items.table.key p) (items.table.key q)) refl, each qs a.1 b.1)
 

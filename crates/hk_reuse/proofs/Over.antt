@@ -76,7 +76,8 @@ module _ (dig : Digests) (table : Table) (own : Ident) (x : Page) (k : Pages) wh
   attempted-if ps kept true t h = h
   attempted-if ps kept false t h = stops-here ps kept
 
-  attempted-group : (ps kept qs : List ℕ) (f : List Page → Task Attempt) → ((xs : List Page) → Attempted ps kept (run (f xs) k)) → (o : Option (List Page)) → Attempted ps kept (answered qs (lacking k qs) (λ xs. run (f xs) k) o)
+  attempted-group : (ps kept qs : List ℕ) (f : List Page → Task Attempt) → ((xs : List Page) → Attempted ps kept (run (f xs) k)) → (o : Option (List Page))
+      → Attempted ps kept (answered qs (lacking k qs) (λ xs. run (f xs) k) o)
   attempted-group ps kept qs f h None = record { begins = (ps, refl); all = λ y e. cc; broken = λ g e. cc; unused = refl }
   attempted-group ps kept qs f h (Some xs) = let r : Attempted ps kept (run (f xs) k) = h xs in record { begins = r.begins; all = r.all; broken = r.broken; unused = r.unused }
 
@@ -98,7 +99,8 @@ known-all : (k m : Pages) → Extends k m → (ps : List ℕ) → lacking k ps �
 known-all k m ext [] e = tt
 known-all k m ext (p ∷ ps) e = at (k p) refl e (λ w. known-all k m ext ps w)
   where
-    at : (o : Option Page) → k p ≡ o → cond (is_none o) (p ∷ lacking k ps) (lacking k ps) ≡ [] → (lacking k ps ≡ [] → AllByRecursion (λ q. m q ≡ k q) ps) → (m p ≡ k p) × AllByRecursion (λ q. m q ≡ k q) ps
+    at : (o : Option Page) → k p ≡ o → cond (is_none o) (p ∷ lacking k ps) (lacking k ps) ≡ [] → (lacking k ps ≡ [] → AllByRecursion (λ q. m q ≡ k q) ps)
+        → (m p ≡ k p) × AllByRecursion (λ q. m q ≡ k q) ps
     at None w e f = cc
     at (Some x) w e f = (ext p x w ∙ sym w, f e)
 
@@ -141,7 +143,9 @@ page-dropped kept (asked ps ∷ l) p = page-dropped kept l p
 page-dropped kept (note (used n) ∷ l) p = page-dropped kept l p
 page-dropped kept (note (saved q x) ∷ l) p = at (page-dropped kept l p) (is_in kept q) refl (nat_eq q p) refl
   where
-    at : page_in (saves_of (drop_saved kept l)) p ≡ cond (is_in kept p) None (page_in (saves_of l) p) → (b : Bool) → is_in kept q ≡ b → (c : Bool) → nat_eq q p ≡ c → page_in (saves_of (cond b (drop_saved kept l) (note (saved q x) ∷ drop_saved kept l))) p ≡ cond (is_in kept p) None (cond c (Some x) (page_in (saves_of l) p))
+    at : page_in (saves_of (drop_saved kept l)) p ≡ cond (is_in kept p) None (page_in (saves_of l) p) → (b : Bool) → is_in kept q ≡ b → (c : Bool)
+        → nat_eq q p ≡ c
+        → page_in (saves_of (cond b (drop_saved kept l) (note (saved q x) ∷ drop_saved kept l))) p ≡ cond (is_in kept p) None (cond c (Some x) (page_in (saves_of l) p))
     at rec true u true w = let i : is_in kept p ≡ true = sym (ap (is_in kept) (eqb-true q p w)) ∙ u in rec ∙ rw i refl
     at rec true u false w = rec
     at rec false u true w = let i : is_in kept p ≡ false = sym (ap (is_in kept) (eqb-true q p w)) ∙ u in rw (w, i) refl
@@ -394,7 +398,8 @@ module _ (lay : Shape) (inner : ℕ → Pages → Run Page) (laws : IsRun lay in
       subst Ascending (sym (saved-append (a k).log (drop_saved kept (inner i k).log)))
       (ascends-on (saved_pairs (a k).log) (saved_pairs (drop_saved kept (inner i k).log)) (ascends-a k) (ascending-dropped kept (inner i k).log (rising-pairs (saves_of (inner i k).log) (laws.rising i k lt))) (later-in k kept w))
 
-  all-by : (k : Pages) (p : ℕ) (x : Page) (e : End Attempt) → (a k).end ≡ e → (by_end k k e).end ≡ done x → p < pairs lay → item_of lay p ≡ i → p ≢ final_of lay i → is_some (page_in (saves_of (by_end k k e).log) p) ≡ true
+  all-by : (k : Pages) (p : ℕ) (x : Page) (e : End Attempt) → (a k).end ≡ e → (by_end k k e).end ≡ done x → p < pairs lay → item_of lay p ≡ i
+      → p ≢ final_of lay i → is_some (page_in (saves_of (by_end k k e).log) p) ≡ true
   all-by k p x (fault f) w h less of ne = cc
   all-by k p x (waits ps) w h less of ne = cc
   all-by k p x (done (through y)) w h less of ne =
@@ -407,7 +412,8 @@ module _ (lay : Shape) (inner : ℕ → Pages → Run Page) (laws : IsRun lay in
       ∙ else-has (page_in (saves_of (a k).log) p) (page_in (saves_of (drop_saved kept r.log)) p)
       (either (is_in kept p) refl had)
     where
-      either : (b : Bool) → is_in kept p ≡ b → is_some (page_in (saves_of (inner i k).log) p) ≡ true → (is_some (page_in (saves_of (a k).log) p) ≡ true) ⊎ (is_some (page_in (saves_of (drop_saved kept (inner i k).log)) p) ≡ true)
+      either : (b : Bool) → is_in kept p ≡ b → is_some (page_in (saves_of (inner i k).log) p) ≡ true
+          → (is_some (page_in (saves_of (a k).log) p) ≡ true) ⊎ (is_some (page_in (saves_of (drop_saved kept (inner i k).log)) p) ≡ true)
       either true u v = inl (has-page (saves_of (a k).log) p (sym (kept-is k kept w p) ∙ u))
       either false u v = inr (ap is_some (page-dropped kept (inner i k).log p ∙ rw u refl) ∙ v)
 
@@ -515,7 +521,8 @@ module _ (limit : ℕ) where
   below-append : (a b : List Mark) → AreBelow a → AreBelow b → AreBelow (a ++ b)
   below-append a b h g = subst (AllByRecursion (λ n. n < limit)) (sym (patterns_of-append a b)) (all-append (λ n. n < limit) (patterns_of a) (patterns_of b) h g)
 
-  below-follow : (clean : Run Page) (ns : List ℕ) (log : List Mark) (e : End Attempt) → AreBelow clean.log → AllByRecursion (λ n. n < limit) ns → AreBelow log → AreBelow (follow log e (finish_run clean ns)).log
+  below-follow : (clean : Run Page) (ns : List ℕ) (log : List Mark) (e : End Attempt) → AreBelow clean.log → AllByRecursion (λ n. n < limit) ns → AreBelow log
+      → AreBelow (follow log e (finish_run clean ns)).log
   below-follow clean ns log (done (through x)) c m h = below-append log (used_marks ns) h (subst (AllByRecursion (λ n. n < limit)) (sym (patterns-used ns)) m)
   below-follow clean ns log (done (broke kept)) c m h = below-append log (drop_saved kept clean.log) h (subst (AllByRecursion (λ n. n < limit)) (sym (patterns-drop kept clean.log)) c)
   below-follow clean ns log (fault e) c m h = h

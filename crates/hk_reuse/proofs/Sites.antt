@@ -57,7 +57,8 @@ each-in (s ∷ ss) h = (rw (eq-eqb s.pair s.pair refl) refl, later ss h.0 (each-
     other : (q : ℕ) → s.pair < q → nat_eq s.pair q ≡ false
     other q lt = grind (arith, lt)
 
-    later : (ts : List Save) → AllAbove s.pair ts → AllByRecursion (λ r. page_in ss r.pair ≡ Some r.page) ts → AllByRecursion (λ r. cond (nat_eq s.pair r.pair) (Some s.page) (page_in ss r.pair) ≡ Some r.page) ts
+    later : (ts : List Save) → AllAbove s.pair ts → AllByRecursion (λ r. page_in ss r.pair ≡ Some r.page) ts
+        → AllByRecursion (λ r. cond (nat_eq s.pair r.pair) (Some s.page) (page_in ss r.pair) ≡ Some r.page) ts
     later [] u v = tt
     later (r ∷ ts) u v = (rw (other r.pair u.0) v.0, later ts u.1 v.1)
 
@@ -142,7 +143,8 @@ final-unsaved site h i lt k = go (saves_of (clean_run site i k).log) (saves-weak
     go (s ∷ ss) a = rw (other s.pair (final_of (shape_of site) i) a.0, go ss a.1) refl
 
 -- the facts of an item that is done, without its finished page
-pub trace-done : (site : Site) → IsSite site → (i : ℕ) → i < (shape_of site).items → (k : Pages) (x : Page) → trace_of [] [] ((clean_run site i k).log ++ note (saved (final_of (shape_of site) i) x) ∷ []) ≡ trace_of [] [] (clean_run site i k).log ++ save (final_of (shape_of site) i) ∷ []
+pub trace-done : (site : Site) → IsSite site → (i : ℕ) → i < (shape_of site).items → (k : Pages) (x : Page)
+    → trace_of [] [] ((clean_run site i k).log ++ note (saved (final_of (shape_of site) i) x) ∷ []) ≡ trace_of [] [] (clean_run site i k).log ++ save (final_of (shape_of site) i) ∷ []
 trace-done site h i lt k x = trace-append [] [] (clean_run site i k).log (note (saved (final_of (shape_of site) i) x) ∷ []) ∙ rw (final-unsaved site h i lt k) refl
 
 pub patterns-done : (l : List Mark) (p : ℕ) (x : Page) → patterns_of (l ++ note (saved p x) ∷ []) ≡ patterns_of l
@@ -153,11 +155,14 @@ abbrev pub Numbered : Table → ℕ → Type 0
 Numbered table n = table.number (table.pattern n) ≡ n
 
 module _ {A : Type 0} (table : Table) (own : Ident) (k : Pages) where
-  numbered-pages : (ps : List ℕ) (f : List Page → Task A) → ((xs : List Page) → AllByRecursion (Numbered table) (patterns_of (run (f xs) k).log)) → (o : Option (List Page)) → AllByRecursion (Numbered table) (patterns_of (answered ps (lacking k ps) (λ xs. run (f xs) k) o).log)
+  numbered-pages : (ps : List ℕ) (f : List Page → Task A) → ((xs : List Page) → AllByRecursion (Numbered table) (patterns_of (run (f xs) k).log))
+      → (o : Option (List Page)) → AllByRecursion (Numbered table) (patterns_of (answered ps (lacking k ps) (λ xs. run (f xs) k) o).log)
   numbered-pages ps f rec None = tt
   numbered-pages ps f rec (Some xs) = rec xs
 
-  numbered-asked : (r : Result (List ℕ) Fault) (f : List Page → Task A) → ((xs : List Page) → AllByRecursion (Numbered table) (patterns_of (run (f xs) k).log)) → AllByRecursion (Numbered table) (patterns_of (run (ask_for r f) k).log)
+  numbered-asked : (r : Result (List ℕ) Fault) (f : List Page → Task A)
+      → ((xs : List Page) → AllByRecursion (Numbered table) (patterns_of (run (f xs) k).log))
+      → AllByRecursion (Numbered table) (patterns_of (run (ask_for r f) k).log)
   numbered-asked (Err e) f rec = tt
   numbered-asked (Ok []) f rec = rec []
   numbered-asked (Ok (p ∷ ps)) f rec = numbered-pages (p ∷ ps) f rec (all_pages k (p ∷ ps))
@@ -205,14 +210,17 @@ module _ (dig : Digests) (old new : Site) (o : IsSite old) (n : IsSite new) (apa
     pages-apart : PagesApart dig old.deeds.table new.deeds.table (new.deeds.id i) (built old) k
     pages-apart p y z f a b t = apart.pages p (here p) y z (sym (n.proper.table.keyed (old.deeds.table.key p) (here p) f.here)) a (within (here p) z b) t
 
-    fits-asks : (ps : List ℕ) → AllByRecursion (λ p. old.deeds.table.pair (old.deeds.table.key p) ≡ Some p) ps → list_all (ask_fits dig new.deeds.table) (map (ask_view dig old.deeds.table (built old)) ps) ≡ true → AllByRecursion FitsHere ps
+    fits-asks : (ps : List ℕ) → AllByRecursion (λ p. old.deeds.table.pair (old.deeds.table.key p) ≡ Some p) ps
+        → list_all (ask_fits dig new.deeds.table) (map (ask_view dig old.deeds.table (built old)) ps) ≡ true → AllByRecursion FitsHere ps
     fits-asks [] h t = tt
     fits-asks (p ∷ ps) h t =
         let w = and-both (ask_fits dig new.deeds.table (ask_view dig old.deeds.table (built old) p)) (list_all (ask_fits dig new.deeds.table) (map (ask_view dig old.deeds.table (built old)) ps)) t in
         let v = and-both (is_some (new.deeds.table.pair (old.deeds.table.key p))) (bytes_eq (dig.traits (new.deeds.table.traits (old.deeds.table.key p).id)) (dig.traits (old.deeds.table.traits (old.deeds.table.key p).id))) w.0 in
         (record { there = h.0; here = some-or (new.deeds.table.pair (old.deeds.table.key p)) v.0; traits = apart.traits (old.deeds.table.key p).id (o.proper.table.item (old.deeds.table.key p) p h.0) (let w : (q : ℕ) × (new.deeds.table.pair (old.deeds.table.key p) ≡ Some q) = the_some (new.deeds.table.pair (old.deeds.table.key p)) v.0 in n.proper.table.item (old.deeds.table.key p) w.0 w.1) v.1 }, fits-asks ps h.1 w.1)
 
-    fits-marks : (marks : List TraceMark) → GroupsAll (λ p. old.deeds.table.pair (old.deeds.table.key p) ≡ Some p) marks → list_all (mark_fits dig new.deeds.table) (map (mark_view dig old.deeds.table (built old)) marks) ≡ true → FitsMarks dig old.deeds.table new.deeds.table (new.deeds.id i) (built old) k marks
+    fits-marks : (marks : List TraceMark) → GroupsAll (λ p. old.deeds.table.pair (old.deeds.table.key p) ≡ Some p) marks
+        → list_all (mark_fits dig new.deeds.table) (map (mark_view dig old.deeds.table (built old)) marks) ≡ true
+        → FitsMarks dig old.deeds.table new.deeds.table (new.deeds.id i) (built old) k marks
     fits-marks [] h t = tt
     fits-marks (group ps ∷ marks) h t =
         let w = and-both (list_all (ask_fits dig new.deeds.table) (map (ask_view dig old.deeds.table (built old)) ps)) (list_all (mark_fits dig new.deeds.table) (map (mark_view dig old.deeds.table (built old)) marks)) t in
@@ -329,14 +337,17 @@ module _ (dig : Digests) (old new : Site) (o : IsSite old) (n : IsSite new) (apa
     abbrev whole0 : ℕ → List Mark
     whole0 j = whole_log (shape_of old) j (clean_run old j (built old))
 
-    by-fit : (e : EntryView) → (fits dig (items_of new) i e ≡ true → SameRun (shape_of new) i (run (replay_by dig (items_of new) i (task_of new.deeds i) e) k) (clean_run new i k)) → SameRun (shape_of new) i (run (replay_of dig new (image dig old) i (Some e)) k) (clean_run new i k)
+    by-fit : (e : EntryView)
+        → (fits dig (items_of new) i e ≡ true → SameRun (shape_of new) i (run (replay_by dig (items_of new) i (task_of new.deeds i) e) k) (clean_run new i k))
+        → SameRun (shape_of new) i (run (replay_of dig new (image dig old) i (Some e)) k) (clean_run new i k)
     by-fit e f =
         elim (fits dig (items_of new) i e) as (λ b. fits dig (items_of new) i e ≡ b → SameRun (shape_of new) i (run (cond b (replay_by dig (items_of new) i (task_of new.deeds i) e) (task_of new.deeds i)) k) (clean_run new i k)) [
           | true ↦ λ t. f t
           | false ↦ λ t. same-run (shape_of new) i (clean_run new i k)
         ] refl
 
-    by-end : (j : ℕ) → j < (shape_of old).items → old.deeds.id j ≡ new.deeds.id i → (e : End Page) → (clean_run old j (built old)).end ≡ e → SameRun (shape_of new) i (run (replay_of dig new (image dig old) i (entry_by dig (items_of old) (endings old) (built old) j (ends_with ((clean_run old j (built old)).log ++ final_mark (final_of (shape_of old) j) e) e))) k) (clean_run new i k)
+    by-end : (j : ℕ) → j < (shape_of old).items → old.deeds.id j ≡ new.deeds.id i → (e : End Page) → (clean_run old j (built old)).end ≡ e
+        → SameRun (shape_of new) i (run (replay_of dig new (image dig old) i (entry_by dig (items_of old) (endings old) (built old) j (ends_with ((clean_run old j (built old)).log ++ final_mark (final_of (shape_of old) j) e) e))) k) (clean_run new i k)
     by-end j old_lt one (fault e) h = same-run (shape_of new) i (clean_run new i k)
     by-end j old_lt one (waits ps) h = same-run (shape_of new) i (clean_run new i k)
     by-end j old_lt one (done x) h =
@@ -351,7 +362,8 @@ module _ (dig : Digests) (old new : Site) (o : IsSite old) (n : IsSite new) (apa
     unfolding status
     ending-is j = refl
 
-    by-item : (f : Option ℕ) → old.deeds.table.find (new.deeds.id i) ≡ f → SameRun (shape_of new) i (run (replay_of dig new (image dig old) i (entry_at dig (items_of old) (endings old) (built old) f)) k) (clean_run new i k)
+    by-item : (f : Option ℕ) → old.deeds.table.find (new.deeds.id i) ≡ f
+        → SameRun (shape_of new) i (run (replay_of dig new (image dig old) i (entry_at dig (items_of old) (endings old) (built old) f)) k) (clean_run new i k)
     by-item None h = same-run (shape_of new) i (clean_run new i k)
     by-item (Some j) h =
         let w = o.proper.found (new.deeds.id i) j h in
@@ -374,7 +386,8 @@ module _ (dig : Digests) (old new : Site) (o : IsSite old) (n : IsSite new) (apa
   rounds-same : (k : Pages) → Extends k (built new) → round lay replaying no_seeds k ≡ round lay (clean_run new) no_seeds k
   rounds-same k within = fun_ext (λ p. at p (nat_lt p (pairs lay)) refl)
     where
-      at : (p : ℕ) (b : Bool) → nat_lt p (pairs lay) ≡ b → cond b (page_of lay (item_of lay p) (replaying (item_of lay p) k) p) None ≡ cond b (page_of lay (item_of lay p) (clean_run new (item_of lay p) k) p) None
+      at : (p : ℕ) (b : Bool) → nat_lt p (pairs lay) ≡ b
+          → cond b (page_of lay (item_of lay p) (replaying (item_of lay p) k) p) None ≡ cond b (page_of lay (item_of lay p) (clean_run new (item_of lay p) k) p) None
       at p true t = page-same (item_of lay p) p (replaying (item_of lay p) k) (clean_run new (item_of lay p) k) (replays-same (item_of lay p) (n.shape.in_items p (ltb-true p (pairs lay) t)) k within)
       at p false t = refl
 
@@ -410,6 +423,7 @@ module _ (dig : Digests) (old new : Site) (o : IsSite old) (n : IsSite new) (apa
   pub image-same : entries_of dig (items_of new) (reendings dig new (image dig old)) (rebuilt dig new (image dig old)) ≡ image dig new
   image-same = fun_ext (λ id. at id (new.deeds.table.find id) refl)
     where
-      at : (id : Ident) (f : Option ℕ) → new.deeds.table.find id ≡ f → entry_at dig (items_of new) (reendings dig new (image dig old)) (rebuilt dig new (image dig old)) f ≡ entry_at dig (items_of new) (endings new) (built new) f
+      at : (id : Ident) (f : Option ℕ) → new.deeds.table.find id ≡ f
+          → entry_at dig (items_of new) (reendings dig new (image dig old)) (rebuilt dig new (image dig old)) f ≡ entry_at dig (items_of new) (endings new) (built new) f
       at id None h = refl
       at id (Some i) h = ap (λ k. entry_by dig (items_of new) (endings new) k i (reendings dig new (image dig old) i)) rebuilt-same ∙ ap (entry_by dig (items_of new) (endings new) (built new) i) (endings-same i (n.proper.found id i h).0)

@@ -141,7 +141,8 @@ module _ (dig : Digests) (site : Site) (s : IsSite site) where
     names-saved (group ps ∷ trace) = names-saved trace
     names-saved (save p ∷ trace) = ap (λ l. (site.deeds.table.key p).name ∷ l) (names-saved trace)
 
-    names-back : (names : List Bytes) → AllByRecursion (HasPair site.deeds.table (site.deeds.id i)) names → map (λ p. (site.deeds.table.key p).name) (map (pair_named site.deeds.table (site.deeds.id i)) names) ≡ names
+    names-back : (names : List Bytes) → AllByRecursion (HasPair site.deeds.table (site.deeds.id i)) names
+        → map (λ p. (site.deeds.table.key p).name) (map (pair_named site.deeds.table (site.deeds.id i)) names) ≡ names
     names-back [] h = refl
     names-back (name ∷ names) h =
         let key : Key = record { id = site.deeds.id i; name = name } in
@@ -224,7 +225,8 @@ module _ (dig : Digests) (site : Site) (s : IsSite site) where
   unfolding status
   done-kept own i lt t = at (clean_run site i (built site)).end refl t
     where
-      at : (e : End Page) → (clean_run site i (built site)).end ≡ e → is_finished (ends_with (whole_log (shape_of site) i (clean_run site i (built site))) e) ≡ true → is_kept dig site (image dig site) i ≡ true
+      at : (e : End Page) → (clean_run site i (built site)).end ≡ e
+          → is_finished (ends_with (whole_log (shape_of site) i (clean_run site i (built site))) e) ≡ true → is_kept dig site (image dig site) i ≡ true
       at (done x) w h = still-kept own i lt x w
       at (fault e) w h = cc
       at (waits ps) w h = cc
