@@ -260,7 +260,9 @@ module _ (dig : Digests) (old new : Table) (own : Ident) (k0 k : Pages) where
       abbrev on : Task Attempt
       on = attempt dig new own x held (map (mark_view dig old k0) (trace_of (ps ++ seen) kept (run (was xs) k0).log))
 
-      module _ (first : firsts seen ps ≡ q ∷ qs) (named : firsts s pp ≡ fp) (known : AllByRecursion Known seen) (fits : AllByRecursion Fits (q ∷ qs)) (had : all_pages k0 ps ≡ Some xs) (lack : lacking k fp ≡ lacking k pp) (rest : AllByRecursion Known ps → Rest x ps seen kept held (was xs) (now xs)) where
+      module _ (first : firsts seen ps ≡ q ∷ qs) (named : firsts s pp ≡ fp) (known : AllByRecursion Known seen) (fits : AllByRecursion Fits (q ∷ qs))
+          (had : all_pages k0 ps ≡ Some xs) (lack : lacking k fp ≡ lacking k pp)
+          (rest : AllByRecursion Known ps → Rest x ps seen kept held (was xs) (now xs)) where
         begun : asked fp ∷ [] ≡ lean s (asked pp ∷ [])
         begun = rw named refl
 
@@ -351,7 +353,12 @@ module _ (dig : Digests) (old new : Table) (own : Ident) (k0 k : Pages) where
           (λ all. subst (λ n. Rest x (p ∷ qs) seen kept held (was_by keys xs) n) (sym same)
           (rec (answers xs (traits_of old keys)) ((p ∷ qs) ++ seen) kept held (subst (λ n. Ready x (run (was_by keys xs) k0) n ((p ∷ qs) ++ seen) kept) same (ready-after p qs seen kept xs (was_by keys) (now_by keys) all there)))))
 
-      ask-pages : (p : ℕ) (qs seen kept held : List ℕ) → let keys = map old.key (p ∷ qs) in (o : Option (List Page)) → all_pages k0 (p ∷ qs) ≡ o → Ready x (answered (p ∷ qs) (lacking k0 (p ∷ qs)) (λ xs. run (was_by keys xs) k0) o) (ask_for (resolve new keys) (now_by keys)) seen kept → FollowsAs (answered (p ∷ qs) (lacking k0 (p ∷ qs)) (λ xs. run (was_by keys xs) k0) o) (ask_for (resolve new keys) (now_by keys)) seen kept held
+      abbrev answered_was : ℕ → List ℕ → Option (List Page) → Run Page
+      answered_was p qs o = answered (p ∷ qs) (lacking k0 (p ∷ qs)) (λ xs. run (was_by (map old.key (p ∷ qs)) xs) k0) o
+
+      ask-pages : (p : ℕ) (qs seen kept held : List ℕ) → let keys = map old.key (p ∷ qs) in (o : Option (List Page)) → all_pages k0 (p ∷ qs) ≡ o
+          → Ready x (answered_was p qs o) (ask_for (resolve new keys) (now_by keys)) seen kept
+          → FollowsAs (answered_was p qs o) (ask_for (resolve new keys) (now_by keys)) seen kept held
       ask-pages p qs seen kept held None e ready = absurd (waits-not (lacking k0 (p ∷ qs)) x ready.ends)
       ask-pages p qs seen kept held (Some xs) e ready = ask-some p qs seen kept held xs e ready
 
@@ -390,8 +397,10 @@ module _ (dig : Digests) (old new : Table) (own : Ident) (k0 k : Pages) where
           patterns = ready.patterns.1;
         } in
         let go : Follows (map pair_now seen) held pats x a (run (interpret new own (f (old.matches by))) k) = rec (old.matches by) n.1 (subst (λ ids. IsNamed new own (f ids)) same m.1) seen kept held next in
-        let on : Follows (map pair_now seen) held (new.number by ∷ pats) x a (onward (note (used (new.number by)) ∷ []) (run (interpret new own (f (old.matches by))) k)) = follows-used (map pair_now seen) held pats x a (run (interpret new own (f (old.matches by))) k) (new.number by) go in
-        let at : Follows (map pair_now seen) held (new.number by ∷ pats) x a (onward (note (used (new.number by)) ∷ []) (run (interpret new own (f (new.matches by))) k)) = subst (λ ids. Follows (map pair_now seen) held (new.number by ∷ pats) x a (onward (note (used (new.number by)) ∷ []) (run (interpret new own (f ids)) k))) (sym same) on in
+        let on : Follows (map pair_now seen) held (new.number by ∷ pats) x a (onward (note (used (new.number by)) ∷ []) (run (interpret new own (f (old.matches by))) k)) =
+        follows-used (map pair_now seen) held pats x a (run (interpret new own (f (old.matches by))) k) (new.number by) go in
+        let at : Follows (map pair_now seen) held (new.number by ∷ pats) x a (onward (note (used (new.number by)) ∷ []) (run (interpret new own (f (new.matches by))) k)) =
+        subst (λ ids. Follows (map pair_now seen) held (new.number by ∷ pats) x a (onward (note (used (new.number by)) ∷ []) (run (interpret new own (f ids)) k))) (sym same) on in
         subst (λ b. Follows (map pair_now seen) held (new.number b ∷ pats) x a (onward (note (used (new.number by)) ∷ []) (run (interpret new own (f (new.matches by))) k))) (sym named) at
 
     -- a save, under the same name in both

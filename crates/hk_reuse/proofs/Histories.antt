@@ -117,7 +117,10 @@ or-some : (a b : Option Page) → is_some a ≡ true → or_else a b ≡ a
 or-some None b e = cc
 or-some (Some x) b e = refl
 
-module _ (lay : Shape) (slow fast : ℕ → Pages → Run Page) (shape : IsShape lay) (slow_laws : IsRun lay slow) (fast_laws : IsRun lay fast) (same : (i : ℕ) → i < lay.items → (k : Pages) → Extends k (fix lay slow no_seeds) → SameRun lay i (fast i k) (slow i k)) (fixes : fix lay fast no_seeds ≡ fix lay slow no_seeds) (kept : ℕ → Bool) (finishes : (i : ℕ) → kept i ≡ true → (i < lay.items) × (is_finished (status lay slow no_seeds i) ≡ true)) where
+module _ (lay : Shape) (slow fast : ℕ → Pages → Run Page) (shape : IsShape lay) (slow_laws : IsRun lay slow) (fast_laws : IsRun lay fast)
+    (same : (i : ℕ) → i < lay.items → (k : Pages) → Extends k (fix lay slow no_seeds) → SameRun lay i (fast i k) (slow i k))
+    (fixes : fix lay fast no_seeds ≡ fix lay slow no_seeds) (kept : ℕ → Bool)
+    (finishes : (i : ℕ) → kept i ≡ true → (i < lay.items) × (is_finished (status lay slow no_seeds i) ≡ true)) where
   abbrev F : Pages
   F = fix lay slow no_seeds
 

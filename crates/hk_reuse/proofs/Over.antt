@@ -83,7 +83,10 @@ module _ (dig : Digests) (table : Table) (own : Ident) (x : Page) (k : Pages) wh
 
   pub attempted : (marks : List MarkView) (kept : List ℕ) → Attempted (named marks) kept (run (attempt dig table own x kept marks) k)
   attempted [] kept = record { begins = ([], refl); all = λ y e. refl; broken = λ h e. cc; unused = refl }
-  attempted (recorded rs ∷ marks) kept = attempted-group (named marks) kept (asked_pairs table rs) (λ xs. cond (same_pages dig xs rs) (attempt dig table own x kept marks) (gives (broke kept))) (λ xs. attempted-if (named marks) kept (same_pages dig xs rs) (attempt dig table own x kept marks) (attempted marks kept)) (all_pages k (asked_pairs table rs))
+  attempted (recorded rs ∷ marks) kept =
+      let rest = attempt dig table own x kept marks in
+      attempted-group (named marks) kept (asked_pairs table rs) (λ xs. cond (same_pages dig xs rs) rest (gives (broke kept)))
+      (λ xs. attempted-if (named marks) kept (same_pages dig xs rs) rest (attempted marks kept)) (all_pages k (asked_pairs table rs))
   attempted (stored name page ∷ marks) kept =
       let q = pair_named table own name in
       let r : Attempted (named marks) (q ∷ kept) (run (attempt dig table own x (q ∷ kept) marks) k) = attempted marks (q ∷ kept) in
@@ -246,7 +249,9 @@ fault-waits A f l h = cc
 then-begins : (x y z : List Mark) → Begins x y → Begins y z → Begins x z
 then-begins x y z u v = (u.0 ++ v.0, v.1 ∙ (ap (λ l. l ++ v.0) u.1 ∙ append_assoc x u.0 v.0))
 
-module _ (lay : Shape) (inner : ℕ → Pages → Run Page) (laws : IsRun lay inner) (i : ℕ) (lt : i < lay.items) (on : List ℕ) (snaps : AreSnapshots lay i on) (t : Task Attempt) (ns : List ℕ) (once : AllGroups (IsDistinct nat_eq) t) (inside : AllGroups (AllByRecursion (λ p. p < pairs lay)) t) (went : (k : Pages) → Attempted on [] (run t k)) where
+module _ (lay : Shape) (inner : ℕ → Pages → Run Page) (laws : IsRun lay inner) (i : ℕ) (lt : i < lay.items) (on : List ℕ)
+    (snaps : AreSnapshots lay i on) (t : Task Attempt) (ns : List ℕ) (once : AllGroups (IsDistinct nat_eq) t)
+    (inside : AllGroups (AllByRecursion (λ p. p < pairs lay)) t) (went : (k : Pages) → Attempted on [] (run t k)) where
   abbrev pub a : Pages → Run Attempt
   a k = run t k
 
@@ -342,7 +347,8 @@ module _ (lay : Shape) (inner : ℕ → Pages → Run Page) (laws : IsRun lay in
   grows-by k m ext (done (through x)) w = ([], ap (λ r. (follow r.log r.end (after m)).log) (settles k m ext (through x) w) ∙ (ap (λ e. (by_end k m e).log) w ∙ sym (append-nil ((a k).log ++ used_marks ns))))
   grows-by k m ext (done (broke kept)) w =
       let b : Begins (inner i k).log (inner i m).log = laws.grows i k m lt ext in
-      (drop_saved kept b.0, ap (λ r. (follow r.log r.end (after m)).log) (settles k m ext (broke kept) w) ∙ (ap (λ e. (by_end k m e).log) w ∙ (ap (λ q. (a k).log ++ drop_saved kept q) b.1 ∙ (ap (λ q. (a k).log ++ q) (drop-append kept (inner i k).log b.0) ∙ sym (append_assoc (a k).log (drop_saved kept (inner i k).log) (drop_saved kept b.0))))))
+      (drop_saved kept b.0, ap (λ r. (follow r.log r.end (after m)).log) (settles k m ext (broke kept) w)
+      ∙ (ap (λ e. (by_end k m e).log) w ∙ (ap (λ q. (a k).log ++ drop_saved kept q) b.1 ∙ (ap (λ q. (a k).log ++ q) (drop-append kept (inner i k).log b.0) ∙ sym (append_assoc (a k).log (drop_saved kept (inner i k).log) (drop_saved kept b.0))))))
 
   -- saves
   abbrev IsOwn : ℕ → Type 0
@@ -454,7 +460,8 @@ module _ (lay : Shape) (inner : ℕ → Pages → Run Page) (laws : IsRun lay in
         within = λ k. laws.within i k lt;
       }
 
-  module _ (on : List ℕ) (snaps : AreSnapshots lay i on) (t : Task Attempt) (ns : List ℕ) (once : AllGroups (IsDistinct nat_eq) t) (inside : AllGroups (AllByRecursion (λ p. p < pairs lay)) t) (went : (k : Pages) → Attempted on [] (run t k)) where
+  module _ (on : List ℕ) (snaps : AreSnapshots lay i on) (t : Task Attempt) (ns : List ℕ) (once : AllGroups (IsDistinct nat_eq) t)
+      (inside : AllGroups (AllByRecursion (λ p. p < pairs lay)) t) (went : (k : Pages) → Attempted on [] (run t k)) where
     pub attempt-laws : IsRunOf lay i (g lay inner laws i lt on snaps t ns once inside went)
     attempt-laws =
         record {

@@ -129,7 +129,11 @@ final-built site h i lt x e =
     closed lay (clean_run site) no_seeds h.shape laws (no-seeds lay) (final_of lay i) x (h.shape.in_pairs i lt) refl (rw (h.shape.own_final i lt) page)
 
 final-unsaved : (site : Site) → IsSite site → (i : ℕ) → i < (shape_of site).items → (k : Pages) → is_in (saved_pairs (clean_run site i k).log ++ []) (final_of (shape_of site) i) ≡ false
-final-unsaved site h i lt k = go (saves_of (clean_run site i k).log) (saves-weaker (λ s. page_in (saves_of (clean_run site i k).log) s.pair ≡ Some s.page) (λ s. s.pair ≢ final_of (shape_of site) i) (λ s e. ((laws-of site h).own i k s.pair s.page lt e).2) (saves_of (clean_run site i k).log) (each-in (saves_of (clean_run site i k).log) ((laws-of site h).rising i k lt)))
+final-unsaved site h i lt k =
+    let saves = saves_of (clean_run site i k).log in
+    let laws = laws-of site h in
+    go saves
+    (saves-weaker (λ s. page_in saves s.pair ≡ Some s.page) (λ s. s.pair ≢ final_of (shape_of site) i) (λ s e. (laws.own i k s.pair s.page lt e).2) saves (each-in saves (laws.rising i k lt)))
   where
     other : (p q : ℕ) → p ≢ q → nat_eq q p ≡ false
     other p q ne = at (nat_eq q p) refl
@@ -185,7 +189,8 @@ same-run : (lay : Shape) (i : ℕ) (c : Run Page) → SameRun lay i c c
 same-run lay i c = record { saves = refl; ends = refl; facts = λ x e. refl }
 
 module _ (dig : Digests) (old new : Site) (o : IsSite old) (n : IsSite new) (apart : TellApart dig old new) (tell : TextsTell old new) where
-  module _ (i : ℕ) (lt : i < (shape_of new).items) (k : Pages) (within : Extends k (built new)) (j : ℕ) (old_lt : j < (shape_of old).items) (one : old.deeds.id j ≡ new.deeds.id i) (x : Page) (ends : (clean_run old j (built old)).end ≡ done x) where
+  module _ (i : ℕ) (lt : i < (shape_of new).items) (k : Pages) (within : Extends k (built new)) (j : ℕ) (old_lt : j < (shape_of old).items)
+      (one : old.deeds.id j ≡ new.deeds.id i) (x : Page) (ends : (clean_run old j (built old)).end ≡ done x) where
     abbrev log0 : List Mark
     log0 = (clean_run old j (built old)).log
 
@@ -214,9 +219,13 @@ module _ (dig : Digests) (old new : Site) (o : IsSite old) (n : IsSite new) (apa
         → list_all (ask_fits dig new.deeds.table) (map (ask_view dig old.deeds.table (built old)) ps) ≡ true → AllByRecursion FitsHere ps
     fits-asks [] h t = tt
     fits-asks (p ∷ ps) h t =
-        let w = and-both (ask_fits dig new.deeds.table (ask_view dig old.deeds.table (built old) p)) (list_all (ask_fits dig new.deeds.table) (map (ask_view dig old.deeds.table (built old)) ps)) t in
-        let v = and-both (is_some (new.deeds.table.pair (old.deeds.table.key p))) (bytes_eq (dig.traits (new.deeds.table.traits (old.deeds.table.key p).id)) (dig.traits (old.deeds.table.traits (old.deeds.table.key p).id))) w.0 in
-        (record { there = h.0; here = some-or (new.deeds.table.pair (old.deeds.table.key p)) v.0; traits = apart.traits (old.deeds.table.key p).id (o.proper.table.item (old.deeds.table.key p) p h.0) (let w : (q : ℕ) × (new.deeds.table.pair (old.deeds.table.key p) ≡ Some q) = the_some (new.deeds.table.pair (old.deeds.table.key p)) v.0 in n.proper.table.item (old.deeds.table.key p) w.0 w.1) v.1 }, fits-asks ps h.1 w.1)
+        let key = old.deeds.table.key p in
+        let view = ask_view dig old.deeds.table (built old) in
+        let w = and-both (ask_fits dig new.deeds.table (view p)) (list_all (ask_fits dig new.deeds.table) (map view ps)) t in
+        let v = and-both (is_some (new.deeds.table.pair key)) (bytes_eq (dig.traits (new.deeds.table.traits key.id)) (dig.traits (old.deeds.table.traits key.id))) w.0 in
+        let now : (q : ℕ) × (new.deeds.table.pair key ≡ Some q) = the_some (new.deeds.table.pair key) v.0 in
+        let traits = apart.traits key.id (o.proper.table.item key p h.0) (n.proper.table.item key now.0 now.1) v.1 in
+        (record { there = h.0; here = some-or (new.deeds.table.pair key) v.0; traits = traits }, fits-asks ps h.1 w.1)
 
     fits-marks : (marks : List TraceMark) → GroupsAll (λ p. old.deeds.table.pair (old.deeds.table.key p) ≡ Some p) marks
         → list_all (mark_fits dig new.deeds.table) (map (mark_view dig old.deeds.table (built old)) marks) ≡ true
@@ -307,7 +316,8 @@ module _ (dig : Digests) (old new : Site) (o : IsSite old) (n : IsSite new) (apa
         let b = and-both (print_fits && names_fit) patterns_fit c.0 in
         let a = and-both print_fits names_fit b.0 in
         let old_laws : IsRun (shape_of old) (clean_run old) = laws-of old o in
-        let front_fits : list_all (mark_fits dig new.deeds.table) marks0 ≡ true = (and-both (list_all (mark_fits dig new.deeds.table) marks0) (list_all (mark_fits dig new.deeds.table) (last0 ∷ [])) (sym (list_all-append (mark_fits dig new.deeds.table) marks0 (last0 ∷ [])) ∙ c.1)).0 in
+        let test = mark_fits dig new.deeds.table in
+        let front_fits : list_all test marks0 ≡ true = (and-both (list_all test marks0) (list_all test (last0 ∷ [])) (sym (list_all-append test marks0 (last0 ∷ [])) ∙ c.1)).0 in
         let last : last_page entry.marks ≡ x = last-of marks0 last0 ∙ rw (final-built old o j old_lt x ends) refl in
         let new_laws : IsRun (shape_of new) (clean_run new) = laws-of new n in
         let p : AllByRecursion PatternFits (patterns_of log0) = all-of-firsts PatternFits [] (patterns_of log0) tt (fits-patterns (firsts [] (patterns_of log0)) b.1) in
