@@ -28,7 +28,7 @@ upto-in (suc n) q lt =
       | inr f ↦ in-left (upto n) (n ∷ []) q (upto-in n q (elim (decide (nat_lt q n)) [ inl l ↦ ltb-true q n l | inr g ↦ clash (nat_eq q n) f (eq-eqb q n (omega (arith, ltb-false q n g))) ]))
     ]
 
-upto-below : (m n : ℕ) → m ≤ n → AllByRecursion (λ q. q < n) (upto m)
+pub upto-below : (m n : ℕ) → m ≤ n → AllByRecursion (λ q. q < n) (upto m)
 upto-below zero n le = tt
 upto-below (suc m) n le = all-append (λ q. q < n) (upto m) (m ∷ []) (upto-below m n (omega arith)) (omega arith, tt)
 
