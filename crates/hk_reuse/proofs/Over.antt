@@ -346,9 +346,11 @@ module _ (lay : Shape) (inner : ℕ → Pages → Run Page) (laws : IsRun lay in
   grows-by k m ext (waits ps) w = then-begins (a k).log (a m).log (g m).log (run_grows t k m ext) (begins-follow m (a m).end)
   grows-by k m ext (done (through x)) w = ([], ap (λ r. (follow r.log r.end (after m)).log) (settles k m ext (through x) w) ∙ (ap (λ e. (by_end k m e).log) w ∙ sym (append-nil ((a k).log ++ used_marks ns))))
   grows-by k m ext (done (broke kept)) w =
-      let b : Begins (inner i k).log (inner i m).log = laws.grows i k m lt ext in
-      (drop_saved kept b.0, ap (λ r. (follow r.log r.end (after m)).log) (settles k m ext (broke kept) w)
-      ∙ (ap (λ e. (by_end k m e).log) w ∙ (ap (λ q. (a k).log ++ drop_saved kept q) b.1 ∙ (ap (λ q. (a k).log ++ q) (drop-append kept (inner i k).log b.0) ∙ sym (append_assoc (a k).log (drop_saved kept (inner i k).log) (drop_saved kept b.0))))))
+      let b : Begins (inner i k).log (inner i m).log = laws.grows i k m lt ext in (
+        drop_saved kept b.0,
+        ap (λ r. (follow r.log r.end (after m)).log) (settles k m ext (broke kept) w)
+            ∙ (ap (λ e. (by_end k m e).log) w ∙ (ap (λ q. (a k).log ++ drop_saved kept q) b.1 ∙ (ap (λ q. (a k).log ++ q) (drop-append kept (inner i k).log b.0) ∙ sym (append_assoc (a k).log (drop_saved kept (inner i k).log) (drop_saved kept b.0))))),
+      )
 
   -- saves
   abbrev IsOwn : ℕ → Type 0
