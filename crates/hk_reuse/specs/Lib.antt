@@ -1,0 +1,11 @@
+pub mod Builds
+pub mod Entries
+pub mod Example
+pub mod Fits
+pub mod Histories
+pub mod Image
+pub mod Kept
+pub mod Over
+pub mod Rebuilt
+pub mod Replay
+pub mod Site
