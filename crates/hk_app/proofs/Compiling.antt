@@ -20,11 +20,11 @@ use Rattle.hk_app.specs.Compiled.{AreResults}
 use Rattle.hk_app.specs.Pages.{no_seeds, known, endings}
 
 module _ {X : Type 0} (f : ℕ → X) where
-  count-upto : (n : ℕ) → length (map f (upto n)) ≡ n
+  pub count-upto : (n : ℕ) → length (map f (upto n)) ≡ n
   count-upto zero = refl
   count-upto (suc n) = ap length (map-append f (upto n) (n ∷ [])) ∙ length-append (map f (upto n)) (f n ∷ []) ∙ omega (arith, count-upto n)
 
-  at-upto : (n k : ℕ) (d : X) → k < n → get_or (map f (upto n)) k d ≡ f k
+  pub at-upto : (n k : ℕ) (d : X) → k < n → get_or (map f (upto n)) k d ≡ f k
   at-upto zero k d lt = absurd (omega arith)
   at-upto (suc n) k d lt = ap (λ l. get_or l k d) (map-append f (upto n) (n ∷ [])) ∙ side (at-upto n k d) (cases_lt k n)
     where
@@ -38,7 +38,7 @@ module _ {X : Type 0} (f : ℕ → X) where
       same_lists xs (map f (upto n)) (count ∙ sym (count-upto n))
       (λ k d lt. let l : k < n = subst (λ m. k < m) count lt in get_or_from_slice_get xs k (f k) d (each k l) ∙ sym (at-upto n k d l))
 
-shape-items : (plan : PlanView) → (plan_shape plan).items ≡ length plan.items
+pub shape-items : (plan : PlanView) → (plan_shape plan).items ≡ length plan.items
 unfolding lookups
 shape-items plan = length-map plan.items count_of
 

@@ -1,8 +1,8 @@
--- The pages of a plan, put into a map one after another.
-use Rattle.std.proofs.Common.{◌≡◌, ℕ, ◌+◌, ◌-◌, ◌<◌, ◌≤◌, cond, length, List, [], ◌∷◌, ◌++◌, map, Option, Some, None, refl, sym, ap, subst, ◌∙◌, arith, suc}
+-- The pages of a plan, put into a map one after another, the last item's first.
+use Rattle.std.proofs.Common.{◌≡◌, ℕ, ◌+◌, ◌<◌, ◌≤◌, ◌==◌, Bool, true, false, ◌&&◌, cond, length, List, [], ◌∷◌, ◌++◌, append-nil, eqb-true, map, Option, Some, None, refl, sym, ap, subst, ◌∙◌, arith, suc}
 use Rattle.std.specs.Ordering.{nat_cmp, match_ordering, eq_by_cmp}
 use Rattle.std.specs.Cmp.Lexicographic.{slice_cmp, nat_list_cmp_total}
-use Rattle.std.specs.List.{filter_map, range_with_len, cons_option}
+use Rattle.std.specs.List.{flat_map}
 use Rattle.std.specs.Option.{option_to_list}
 use Rattle.std.specs.List.Sorted.{IsStrictlySortedBy}
 use Rattle.std.specs.BTreeMap.{insert_entry}
@@ -10,15 +10,27 @@ use Rattle.std.specs.declared.cmp.Ordering.{Ordering}
 use Rattle.std.specs.declared.cmp.Ordering.TheVariants.{Less, Equal, Greater}
 use Rattle.std.specs.FinMap.{insert, entries, from_entries, get-insert, get-from_entries, same_map}
 use Rattle.std.specs.FinMap.Entries.{find, put, find-put, by_order}
+use Rattle.std.proofs.lemmas.Grind.{flat_map-append}
+use Rattle.std.proofs.lemmas.List.{nil_from_length}
 use Rattle.std.proofs.lemmas.Simd.{map-map}
 use Rattle.hk_base.specs.Bytes.{Bytes, Files, paths_of}
 use Rattle.hk_base.specs.Ties.{only_equal_tie}
+use Rattle.hk_base.proofs.Both.{left-part, right-part}
 use Rattle.hk_base.proofs.Entries.{entries-from_entries}
 use Rattle.hk_base.proofs.Ascending.{ascends-sorted, sorted-paths}
+use Rattle.hk_chain.specs.declared.page.Page.{Page}
+use Rattle.hk_chain.specs.Layout.{final_of}
+use Rattle.hk_fix.specs.Fix.{Ending, finished, faulted, waiting, is_finished}
+use Rattle.hk_fix.specs.Report.{ReportView, upto, IsEmptyReport}
+use Rattle.hk_fix.specs.Site.{file_of}
+use Rattle.hk_fix.proofs.Empties.{empty-iff}
+use Rattle.hk_machine.specs.Machine.{plan_shape}
 use Rattle.hk_outside.specs.Held.{set_all}
 use Rattle.hk_rules.specs.PlanView.{PlanView}
-use Rattle.hk_chain.specs.declared.page.Page.{Page}
-use Rattle.hk_app.specs.Pages.{bodies, map_of, page_at, pages_from}
+use Rattle.hk_rules.specs.Plan.{lookups}
+use Rattle.hk_app.specs.Pages.{bodies, map_of, ending, endings, file_at, is_empty, known, page_at, placed, report, site_of}
+use Rattle.hk_app.specs.Promise.{AllEnd}
+use Rattle.hk_app.proofs.Compiling.{count-upto, at-upto, shape-items}
 
 abbrev R : Bytes → Bytes → Ordering
 R = slice_cmp nat_cmp
@@ -47,25 +59,68 @@ map_of-insert_entry es k page = ap made (bodies-insert es k page) ∙ made-inser
 pub ordered-entries : (es : List (Bytes × Page)) → IsStrictlySortedBy R (map (λ (e : Bytes × Page). e.0) es) → entries (map_of es) ≡ bodies es
 ordered-entries es h = entries-from_entries (bodies es) (sorted-paths (bodies es) (ascends-sorted (paths_of (bodies es)) (subst (IsStrictlySortedBy R) (sym (map-map (λ (e : Bytes × Bytes). e.0) (λ (e : Bytes × Page). (e.0, e.1.body)) es)) h)))
 
-pub set_all-append : (es ds : List (Bytes × Bytes)) (m : Files) → set_all (es ++ ds) m ≡ set_all ds (set_all es m)
-set_all-append [] ds m = refl
-set_all-append (e ∷ es) ds m = set_all-append es ds (insert m e.0 e.1)
+-- entries put over a map, the last one first
+abbrev pub over : List (Bytes × Bytes) → Files → Files
+over [] m = m
+over (e ∷ es) m = insert (over es m) e.0 e.1
 
-cons-option : {A : Type 0} (o : Option A) (xs : List A) → cons_option o xs ≡ option_to_list o ++ xs
-cons-option None xs = refl
-cons-option (Some x) xs = refl
+over-append : (es ds : List (Bytes × Bytes)) (m : Files) → over (es ++ ds) m ≡ over es (over ds m)
+over-append [] ds m = refl
+over-append (e ∷ es) ds m = ap (λ f. insert f e.0 e.1) (over-append es ds m)
 
-range-front : (i n : ℕ) → i < n → range_with_len i (n - i) ≡ i ∷ range_with_len (i + 1) (n - (i + 1))
-range-front i n h = let e : n - i ≡ suc (n - (i + 1)) = omega arith in ap (range_with_len i) e
+made-cons : (es : List (Bytes × Bytes)) (e : Bytes × Bytes) → made (e ∷ es) ≡ insert (made es) e.0 e.1
+made-cons es e = same_map nat_list_cmp_total only_equal_tie _ _ (λ q.
+    get-from_entries nat_list_cmp_total (e ∷ es) q
+    ∙ sym (get-insert nat_list_cmp_total (made es) e.0 e.1 q ∙ ap (cond (eq_by_cmp R q e.0) (Some e.1)) (get-from_entries nat_list_cmp_total es q)))
 
-pages-front : (plan : PlanView) (i : ℕ) → i < length plan.items → pages_from plan i ≡ option_to_list (page_at plan i) ++ pages_from plan (i + 1)
-pages-front plan i h = ap (filter_map (page_at plan)) (range-front i (length plan.items) h) ∙ cons-option (page_at plan i) (pages_from plan (i + 1))
+-- a list's map is its entries put over nothing
+made-over : (es : List (Bytes × Bytes)) → over es (made []) ≡ made es
+made-over [] = refl
+made-over (e ∷ es) = ap (λ f. insert f e.0 e.1) (made-over es) ∙ sym (made-cons es e)
 
--- the pages of one more item are put
-pub pages-turn : (plan : PlanView) (i : ℕ) (page : Option (Bytes × Bytes)) (m m' all : Files) → i < length plan.items → page ≡ page_at plan i → m' ≡ set_all (option_to_list page) m → set_all (pages_from plan i) m ≡ all → set_all (pages_from plan (i + 1)) m' ≡ all
-pages-turn plan i page m m' all h is put so =
-    ap (set_all (pages_from plan (i + 1))) (put ∙ ap (λ o. set_all (option_to_list o) m) is) ∙ sym (set_all-append (option_to_list (page_at plan i)) (pages_from plan (i + 1)) m) ∙ ap (λ l. set_all l m) (sym (pages-front plan i h)) ∙ so
+put-over : (o : Option (Bytes × Bytes)) (m : Files) → set_all (option_to_list o) m ≡ over (option_to_list o) m
+put-over None m = refl
+put-over (Some e) m = refl
 
--- no item is left
-pub pages-end : (plan : PlanView) (i : ℕ) (m all : Files) → length plan.items ≤ i → set_all (pages_from plan i) m ≡ all → m ≡ all
-pages-end plan i m all h so = let e : length plan.items - i ≡ 0 = omega arith in sym (ap (λ n. set_all (filter_map (page_at plan) (range_with_len i n)) m) e) ∙ so
+-- what a finished item has in the site is its page at its target
+file-done : (target : Option Bytes) (o : Ending) (page : Option Page) → is_finished o ≡ true → file_of target o page ≡ option_to_list (placed target page)
+file-done None o page h = refl
+file-done (Some target) (finished facts) None h = refl
+file-done (Some target) (finished facts) (Some page) h = refl
+file-done (Some target) (faulted e) page h = cc
+file-done (Some target) (waiting ps) page h = cc
+
+none-left : (r : ReportView) → is_empty r ≡ true → IsEmptyReport r
+none-left r e =
+    let rest = right-part (length r.failed == 0) ((length r.cycles == 0) && (length r.blocked == 0)) e in
+    ( nil_from_length r.failed (eqb-true (length r.failed) 0 (left-part (length r.failed == 0) ((length r.cycles == 0) && (length r.blocked == 0)) e)),
+      nil_from_length r.cycles (eqb-true (length r.cycles) 0 (left-part (length r.cycles == 0) (length r.blocked == 0) rest)),
+      nil_from_length r.blocked (eqb-true (length r.blocked) 0 (right-part (length r.cycles == 0) (length r.blocked == 0) rest)),
+    )
+
+module _ (plan : PlanView) where
+  -- each item of a plan without a report is finished
+  all-finished : AllEnd plan → (i : ℕ) → i < length plan.items → is_finished (ending plan i) ≡ true
+  unfolding endings
+  all-finished all i lt =
+      let each = (empty-iff (plan_shape plan) (endings plan)).0 (none-left (report plan) all) in
+      let count = count-upto (ending plan) (length plan.items) in
+      sym (ap is_finished (at-upto (ending plan) (length plan.items) i (waiting []) lt))
+      ∙ each i (waiting []) (subst (λ n. i < n) (sym count) lt)
+
+  abbrev pub files-upto : ℕ → List (Bytes × Bytes)
+  files-upto n = flat_map (file_at plan) (upto n)
+
+  -- the files of the items before this one and this one's
+  files-more : (i : ℕ) → files-upto (i + 1) ≡ files-upto i ++ file_at plan i
+  files-more i = let e : i + 1 ≡ suc i = omega arith in ap files-upto e ∙ flat_map-append (file_at plan) (upto i) (i ∷ []) ∙ ap (λ l. files-upto i ++ l) (append-nil (file_at plan i))
+
+  pub pages-first : over (files-upto (length plan.items)) (made []) ≡ site_of plan
+  pages-first = made-over (files-upto (length plan.items)) ∙ ap (λ n. made (files-upto n)) (sym (shape-items plan))
+
+  -- the page of one more item is put
+  pub pages-turn : AllEnd plan → (i : ℕ) (page : Option (Bytes × Bytes)) (m m' all : Files) → i < length plan.items → page ≡ page_at plan i → m' ≡ set_all (option_to_list page) m → over (files-upto (i + 1)) m ≡ all → over (files-upto i) m' ≡ all
+  pages-turn ends i page m m' all lt is put so =
+      let file : option_to_list page ≡ file_at plan i = ap option_to_list is ∙ sym (file-done ((lookups plan).target_of i) (ending plan i) (known plan (final_of (plan_shape plan) i)) (all-finished ends i lt)) in
+      ap (over (files-upto i)) (put ∙ put-over page m ∙ ap (λ l. over l m) file)
+      ∙ sym (over-append (files-upto i) (file_at plan i) m) ∙ ap (λ l. over l m) (sym (files-more i)) ∙ so

@@ -1,7 +1,6 @@
 -- What the compilers of a plan come to, from nothing that is kept: the pages, the report and the site.
-use Rattle.std.specs.Prelude.{ℕ, ◌-◌, ◌==◌, Bool, ◌&&◌, List, Option, Some, None, length, map}
-use Rattle.std.specs.List.{filter_map, range_with_len}
-use Rattle.std.specs.FinMap.{entries, from_entries, empty}
+use Rattle.std.specs.Prelude.{ℕ, ◌==◌, Bool, ◌&&◌, List, Option, Some, None, length, map}
+use Rattle.std.specs.FinMap.{entries, from_entries}
 use Rattle.hk_base.specs.Bytes.{Bytes, Files}
 use Rattle.hk_chain.specs.declared.page.Page.{Page}
 use Rattle.hk_chain.specs.Kept.{none_kept}
@@ -9,8 +8,8 @@ use Rattle.hk_chain.specs.Layout.{final_of}
 use Rattle.hk_fix.specs.Fix.{Ending, Seeds, seeds_of, fix, status}
 use Rattle.hk_fix.specs.Pages.{Pages}
 use Rattle.hk_fix.specs.Report.{ReportView, report_of, upto}
+use Rattle.hk_fix.specs.Site.{file_of, site_of as files_of}
 use Rattle.hk_machine.specs.Machine.{plan_run, plan_shape}
-use Rattle.hk_outside.specs.Held.{set_all}
 use Rattle.hk_rules.specs.PlanView.{PlanView}
 use Rattle.hk_rules.specs.Plan.{lookups}
 
@@ -29,9 +28,13 @@ no_seeds plan = seeds_of (none_kept (plan_shape plan))
 unfoldable pub known : PlanView → Pages
 known plan = fix (plan_shape plan) (plan_run plan) (no_seeds plan)
 
--- how each item ends there
+-- how an item ends there
+abbrev pub ending : PlanView → ℕ → Ending
+ending plan = status (plan_shape plan) (plan_run plan) (no_seeds plan)
+
+-- and how each does
 unfoldable pub endings : PlanView → List Ending
-endings plan = map (status (plan_shape plan) (plan_run plan) (no_seeds plan)) (upto (length plan.items))
+endings plan = map (ending plan) (upto (length plan.items))
 
 -- the items that aren't done
 abbrev pub report : PlanView → ReportView
@@ -41,24 +44,24 @@ report plan = report_of (plan_shape plan) (endings plan)
 abbrev pub is_empty : ReportView → Bool
 is_empty r = (length r.failed == 0) && ((length r.cycles == 0) && (length r.blocked == 0))
 
+-- the site: the files of the finished items that have a target
+abbrev pub site_of : PlanView → Files
+site_of plan = files_of (plan_shape plan) (lookups plan).target_of (ending plan) (known plan)
+
+-- the pages in the order of their targets
+abbrev pub pages : PlanView → List (Bytes × Bytes)
+pages plan = entries (site_of plan)
+
+-- what an item has in the site
+abbrev pub file_at : PlanView → ℕ → List (Bytes × Bytes)
+file_at plan item = file_of ((lookups plan).target_of item) (ending plan item) (known plan (final_of (plan_shape plan) item))
+
 -- a target with the body of a page, where both are there
 abbrev pub placed : Option Bytes → Option Page → Option (Bytes × Bytes)
 placed None page = None
 placed (Some target) None = None
 placed (Some target) (Some page) = Some (target, page.body)
 
--- the target of an item with the body of its finished page: a done item has one
+-- the target of an item with the body of its finished page
 abbrev pub page_at : PlanView → ℕ → Option (Bytes × Bytes)
 page_at plan item = placed ((lookups plan).target_of item) (known plan (final_of (plan_shape plan) item))
-
--- the pages of the items from one on
-abbrev pub pages_from : PlanView → ℕ → List (Bytes × Bytes)
-pages_from plan item = filter_map (page_at plan) (range_with_len item (length plan.items - item))
-
--- the site: the map from target to body of the done items; no two items of a plan have one target
-abbrev pub site_of : PlanView → Files
-site_of plan = set_all (pages_from plan 0) empty
-
--- the pages in the order of their targets
-abbrev pub pages : PlanView → List (Bytes × Bytes)
-pages plan = entries (site_of plan)

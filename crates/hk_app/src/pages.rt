@@ -5,6 +5,7 @@ ghost use Rattle.hk_chain.specs.Kept.{at_place};
 ghost use Rattle.hk_outside.specs.Held.{set_all};
 ghost use Rattle.hk_writer.specs.Pages.{page_of, pages_of};
 ghost use Rattle.hk_app.specs.Pages as spec;
+ghost use Rattle.hk_app.specs.Promise.{AllEnd};
 
 use hk_base::{NoMemory, Text};
 use hk_chain::{ItemNo, PageRef, PairNo};
@@ -13,13 +14,15 @@ use hk_writer::PageOut;
 use std::alloc::Global;
 use std::collections::BTreeMap;
 
-/// The pages of the done items that have a target, in the order of their targets. `n log n` comparisons of targets.
+/// The pages of a plan whose items are all done, of those that have a target, in the order of their targets. `n log n`
+/// comparisons of targets.
 pub fn pages(
     alloc: Global,
     plan: &Plan,
     known: &[Option<PageRef>],
 ) -> Result<Vec<PageOut>, NoMemory>
-    requires { at_place known.now ≡ spec.known plan.now }
+    requires all { AllEnd plan.now }
+    requires known { at_place known.now ≡ spec.known plan.now }
     ensures { IfOk result (λ v. pages_of v.items ≡ spec.pages plan.now) }
 {
     let pages = pages_by_target(alloc, plan, known)?;
@@ -41,11 +44,12 @@ fn pages_by_target(
     plan: &Plan,
     known: &[Option<PageRef>],
 ) -> Result<BTreeMap<Text, PageRef>, NoMemory>
-    requires { at_place known.now ≡ spec.known plan.now }
+    requires all { AllEnd plan.now }
+    requires known { at_place known.now ≡ spec.known plan.now }
     ensures { IfOk result (λ m. spec.map_of m.entries ≡ spec.site_of plan.now) }
 {
     let mut pages = BTreeMap::new(alloc);
-    for item in 0..plan.count() {
+    for item in (0..plan.count()).rev() {
         let page = page(alloc, plan, known, ItemNo(item))?;
         put(&mut pages, page)?;
     }
