@@ -10,12 +10,13 @@ use Rattle.hk_fix.specs.Calls.{Goes, Polls}
 use Rattle.hk_fix.specs.Meaning.{Meaning}
 use Rattle.hk_fix.specs.Pages.{Pages, lacking}
 use Rattle.hk_fix.specs.Task.{Run}
-use Rattle.hk_sched.specs.Standings.{all_told}
-use Rattle.hk_sched.specs.Board.{BoardView, opened, Admits}
+use Rattle.hk_sched.specs.declared.turn.Turn.TheVariants as turn
+use Rattle.hk_sched.specs.Standings.{all_told, out}
+use Rattle.hk_sched.specs.Board.{BoardView, opened, place_at, Admits}
 use Rattle.hk_sched.specs.BoardLaws.{BoardLaws, PollLaws}
 use Rattle.hk_sched.specs.Lawful.{Key, IsKey, IsLawful, Allows}
 use Rattle.hk_lock.specs.Lawful.{IsLawfulFor}
-use Rattle.hk_workers.specs.Working.{IsBoardFor, IsPlay, HasPolled}
+use Rattle.hk_workers.specs.Working.{IsBoardFor, IsTurnFor, IsPlay, HasPolled}
 
 module _ {X C : Type 0} (run : C → ℕ → Pages → Run Page) (shape : C → Shape) (meaning : X → Meaning C) where
   abbrev B : Type 0
@@ -42,6 +43,11 @@ module _ {X C : Type 0} (run : C → ℕ → Pages → Run Page) (shape : C → 
   pub opens-lawful : (key : Key C) (r : Result B NoMemory) → Laws → IsKey run shape key → IsKept key.lay key.kept → IfOk r (λ b. b ≡ opened key.common key.lay key.kept) → IfOk r (λ b. IsBoardFor run shape meaning key b)
   opens-lawful key (Ok b) laws is kept e = subst (IsBoardFor run shape meaning key) (sym e) record { is_key = is; lawful = (laws key is).opens kept }
   opens-lawful key (Err e) laws is kept h = tt
+
+  -- an item that is out may begin anew
+  pub begins-anew : (o : Option (Key C)) (b : B) (i : ℕ) → Laws → place_at b i ≡ out → BoardAt o b → IsLawfulFor (IsTurnFor run shape meaning) o (turn.Fresh i)
+  begins-anew None b i laws at s = s
+  begins-anew (Some key) b i laws at s = record { is_key = s.is_key; lawful = (laws key s.is_key).begins_anew b i s.lawful at }
 
   -- a compiler that was polled
   polled-at : (o : Option (Key C)) (p : Polled) (m n : Meaning C) → Goes shape run m p n → PlayAt o m → PolledAt o p n

@@ -4,6 +4,7 @@
 mod desk;
 mod key;
 mod pool;
+mod rest;
 mod rounds;
 mod step;
 mod whole;

@@ -11,6 +11,7 @@ ghost use Rattle.hk_workers.specs.Working.{IsBoardFor, HasCommon};
 
 use crate::desk::{Desk, Pass, Ready, Seat, WorkerEnd};
 use crate::key::Key;
+use crate::rest::run_rest;
 use crate::step::put_turn_back;
 use crate::whole::{finished, opened};
 use crate::working::worker;
@@ -36,8 +37,9 @@ struct Job<M: Compiler> {
     pass: Pass<M>,
 }
 
-/// Runs all compilers by 1 to 64 workers, each in a thread of its own, and what they left on the caller's thread.
-/// `NoMemory` only for want of memory, of the caller or of any worker. Linear in the polls, the items and the pairs, but
+/// Runs all compilers by 1 to 64 workers, each in a thread of its own, and what they left on the caller's thread. The gate
+/// is told before each poll and after its answer was handed on. `NoMemory` only for want of memory, of the caller or of any
+/// worker. Linear in the polls, the items and the pairs, but
 /// for the waiting and the compilers' own work.
 pub fn run_pool<K: Maker + Sync, G: Gate, R: Threads + Wait + Sync>(
     rt: &R,
@@ -57,7 +59,8 @@ where
     ensures { IfOk result (λ r. IsRunOf layout (K.M.run (K.common_is maker.now)) (seeds_of kept) r) }
 {
     let (about, board) = opened(alloc, layout, kept, maker)?;
-    let board = worked(rt, alloc, &about, board, maker, workers as usize, gate)?;
+    let mut board = worked(rt, alloc, &about, board, maker, workers as usize, gate)?;
+    run_rest(alloc, &about, &mut board, maker, gate)?;
     finished(alloc, &about, board, maker)
 }
 

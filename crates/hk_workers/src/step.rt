@@ -1,5 +1,5 @@
 // The steps of a worker that has the board, and of a compiler in its hand. None of them waits.
-ghost use Rattle.std.specs.Prelude.{◌≡◌, IfOk, IfSome, IfNone};
+ghost use Rattle.std.specs.Prelude.{◌≡◌, IfOk, IfSome};
 ghost use Rattle.hk_lock.specs.Lawful.{IsLawfulFor};
 ghost use Rattle.hk_workers.specs.Working.{IsBoardFor, IsTurnFor, IsPlay, HasPolled, HasCommon, GoesOn};
 
@@ -36,6 +36,25 @@ pub fn next_turn<M: Compiler, H: HasKey<M>>(
 {
     lawful_board::<M>();
     board.next_ready()
+}
+
+/// The same, and where nothing stands ready, an item that is out, to begin anew.
+pub fn any_turn<M: Compiler, H: HasKey<M>>(
+    holder: &H,
+    board: &mut Board<M>,
+) -> Result<Option<Turn<M>>, NoMemory>
+    requires { IsLawfulFor (IsBoardFor M.run M.shape M.meaning) (H.key_is holder.now) board.old }
+    ensures board { IsLawfulFor (IsBoardFor M.run M.shape M.meaning) (H.key_is holder.now) board.new }
+    ensures turn { IfOk result (λ t. IfSome t (λ u. IsLawfulFor (IsTurnFor M.run M.shape M.meaning) (H.key_is holder.now) u)) }
+{
+    lawful_board::<M>();
+    if let Some(turn) = next_turn(holder, board)? {
+        return Ok(Some(turn));
+    }
+    match board.first_out() {
+        Some(item) => Ok(Some(Turn::Fresh(item))),
+        None => Ok(None),
+    }
 }
 
 /// A lawful turn stands on the board again.
