@@ -121,13 +121,11 @@ fn a_worker_shares_what_it_finds(rt: HostRuntime) -> Result<(), Fail> {
             }
         }
     }
-    let mut left = 0;
+    assert!(rt; seen.first_out.is_some());
     for item in 0..3u32 {
         let is_out = seen.first_out == Some(item);
         assert!(rt; unpolled[item as usize] == is_out);
         assert!(rt; (seen.enters[item as usize] == 0) == is_out);
-        left += u32::from(is_out);
     }
-    assert_eq!(rt; left, 1);
     Ok(())
 }
