@@ -108,9 +108,15 @@ fn any_number_of_workers_gives_the_same(rt: HostRuntime) -> Result<(), Fail> {
             let through = pool(&rt, alloc, true, workers)?;
             assert_eq!(rt; printed(alloc, &through)?.as_str(), "done 1;done 1;xxxx 6");
             let stuck = pool(&rt, alloc, false, workers)?;
-            assert_eq!(rt; printed(alloc, &stuck)?.as_str(), "waiting 1;waiting 1;---- 2");
+            assert_eq!(rt;
+                printed(alloc, &stuck)?.as_str(),
+                "waiting 1;waiting 1;---- 2"
+            );
             let groups = pool_of_groups(&rt, alloc, workers)?;
-            assert_eq!(rt; printed(alloc, &groups)?.as_str(), "done 2;waiting 1;failed;xxx-x- 8");
+            assert_eq!(rt;
+                printed(alloc, &groups)?.as_str(),
+                "done 2;waiting 1;failed;xxx-x- 8"
+            );
         }
     }
     Ok(())
@@ -123,9 +129,15 @@ fn rounds_give_the_same(rt: HostRuntime) -> Result<(), Fail> {
         let through = rounds(&rt, alloc, true, workers)?;
         assert_eq!(rt; printed(alloc, &through)?.as_str(), "done 1;done 1;xxxx 6");
         let stuck = rounds(&rt, alloc, false, workers)?;
-        assert_eq!(rt; printed(alloc, &stuck)?.as_str(), "waiting 1;waiting 1;---- 2");
+        assert_eq!(rt;
+            printed(alloc, &stuck)?.as_str(),
+            "waiting 1;waiting 1;---- 2"
+        );
         let groups = rounds_of_groups(&rt, alloc, workers)?;
-        assert_eq!(rt; printed(alloc, &groups)?.as_str(), "done 2;waiting 1;failed;xxx-x- 8");
+        assert_eq!(rt;
+            printed(alloc, &groups)?.as_str(),
+            "done 2;waiting 1;failed;xxx-x- 8"
+        );
     }
     Ok(())
 }
