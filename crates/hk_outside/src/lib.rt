@@ -3,6 +3,7 @@
 
 mod call;
 mod failures;
+mod gate;
 mod held;
 mod mem_sink;
 mod mem_tree;
@@ -12,6 +13,7 @@ mod still_tree;
 mod tree;
 
 pub use call::{CallKind, Fail};
+pub use gate::{Gate, OpenGate};
 pub use mem_sink::MemSink;
 pub use mem_tree::MemTree;
 pub use sink::Sink;

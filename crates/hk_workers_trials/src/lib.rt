@@ -1,0 +1,11 @@
+//! Trials of the workers: runs by several threads, polls that meet at a gate, and what one worker leaves.
+#![tactic(auto)]
+
+#[cfg(test)]
+mod desks;
+#[cfg(test)]
+mod gates;
+#[cfg(test)]
+mod meetings;
+#[cfg(test)]
+mod runs;
