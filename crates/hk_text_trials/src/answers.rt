@@ -13,8 +13,6 @@ pub fn answer(alloc: Global, call: &str, args: &[Vec<u8>]) -> Result<String, Fai
         ("glob", [glob, path]) => patterns::glob(alloc, glob, path),
         ("pattern", [path]) => patterns::pattern(alloc, path, None),
         ("pattern", [path, version]) => patterns::pattern(alloc, path, Some(version)),
-        ("route", [path]) => patterns::route(alloc, path, None),
-        ("route", [path, version]) => patterns::route(alloc, path, Some(version)),
         ("header", [file]) => headers::header(alloc, file),
         ("companion", [text]) => headers::companion(alloc, text),
         ("both", [file, text]) => headers::both(alloc, file, text),

@@ -70,6 +70,11 @@ fn fused(alloc: Global, fuse: u64) -> Result<String, Fail> {
     Ok(text)
 }
 
+/// A write, by a small function without a promise.
+fn put<T: Tree>(alloc: Global, tree: &mut T, path: &[u8]) -> Result<(), TreeFault> {
+    tree.write(alloc, path, b"abc")
+}
+
 /// Three writes of which the second fails, and leaves so many first bytes or what there was.
 pub fn torn(alloc: Global, count: &[u8]) -> Result<String, Fail> {
     let torn = match count {
@@ -84,14 +89,14 @@ pub fn torn(alloc: Global, count: &[u8]) -> Result<String, Fail> {
         },
     ]?;
     let mut tree = MemTree::new(alloc, files(alloc)?, fails, None)?;
-    let first = tree.write(alloc, b"b.txt", b"abc");
-    let second = tree.write(alloc, b"a.txt", b"abc");
+    let first = put(alloc, &mut tree, b"b.txt");
+    let second = put(alloc, &mut tree, b"a.txt");
     let text = left(
         alloc,
         format!(in alloc; "{first:?}, {second:?}")?,
         tree.get(b"a.txt"),
     )?;
-    let third = tree.write(alloc, b"a.txt", b"abc");
+    let third = put(alloc, &mut tree, b"a.txt");
     Ok(format!(in alloc; "{text}; {third:?}")?)
 }
 

@@ -1,8 +1,7 @@
-// Globs over paths, patterns over identifiers, and the target that a route gives.
-use crate::row::{shared, shown, yes_or_no};
+// Globs over paths, and patterns over identifiers.
+use crate::row::{shared, yes_or_no};
 use hk_base::{Identifier, Text};
 use hk_pattern::{Boxed, Glob, Items, Pattern};
-use hk_route::{Route, target};
 use std::alloc::Global;
 use std::test::Fail;
 
@@ -34,27 +33,4 @@ pub fn pattern(alloc: Global, path: &[u8], version: Option<&[u8]>) -> Result<Str
 
 fn matches(pattern: &Pattern, path: &[u8], version: Option<&[u8]>) -> bool {
     shared(pattern).matches_path(path, version)
-}
-
-/// Every kind of route: with no version in all but the first, `posts/` as `blog/` and another extension, or else `x`.
-fn all_routes(alloc: Global) -> Result<Route, Fail> {
-    let plain = Route::When(Pattern::HasNoVersion, Boxed::new(alloc, Route::Id)?);
-    let gsub = Route::Gsub(
-        Text::from_slice(alloc, b"posts/")?,
-        Text::from_slice(alloc, b"blog/")?,
-    );
-    let extension = Route::Extension(Text::from_slice(alloc, b"html")?);
-    let composed = Route::Compose(Items::from_vec(vec![in alloc; gsub, extension]?));
-    let constant = Route::Constant(Text::from_slice(alloc, b"x")?);
-    let routes = vec![in alloc; plain, composed, constant]?;
-    Ok(Route::First(Items::from_vec(routes)))
-}
-
-/// The target that the route gives the identifier.
-pub fn route(alloc: Global, path: &[u8], version: Option<&[u8]>) -> Result<String, Fail> {
-    let id = Identifier::read(alloc, path, version)?;
-    match target(alloc, shared(&all_routes(alloc)?), &id)? {
-        Some(text) => Ok(shown(alloc, text.as_slice())?),
-        None => Ok(String::from_str(alloc, "none")?),
-    }
 }

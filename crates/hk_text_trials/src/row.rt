@@ -1,6 +1,5 @@
 // How the arguments of a row are read, and how bytes are shown.
 use std::alloc::{AllocError, Global};
-use std::fmt::Write;
 use std::test::Fail;
 
 /// The arguments between bars. Each is one or more parts between `&`, and a part is a text, or a number, `^*` and a text
@@ -64,23 +63,13 @@ fn digit(byte: u8) -> u8 {
     }
 }
 
-/// Bytes as a row has them, or their number where they are many.
+/// Bytes with Rust's escapes, or their number where they are many.
 pub fn shown(alloc: Global, bytes: &[u8]) -> Result<String, AllocError> {
-    let mut text = String::new(alloc);
     if bytes.len() > 200 {
-        write!(text, "{} bytes", bytes.len())?;
-        return Ok(text);
+        format!(in alloc; "{} bytes", bytes.len())
+    } else {
+        format!(in alloc; "{}", bytes.escape_ascii())
     }
-    for byte in bytes {
-        match byte {
-            b'\n' => text.push_str("^n")?,
-            b'\t' => text.push_str("^t")?,
-            b'\r' => text.push_str("^r")?,
-            b' '..=b'~' => text.push(char::from(*byte))?,
-            _ => write!(text, "^x{byte:02x}")?,
-        }
-    }
-    Ok(text)
 }
 
 /// What became of the bytes.
