@@ -1,11 +1,11 @@
 // What one worker takes from a desk and leaves there.
 ghost use Rattle.std.specs.Prelude.{◌≡◌, IfOk};
-ghost use Rattle.hk_board_trials.specs.Sample.{sample_shape};
+ghost use Rattle.hk_families.specs.Sample.{sample_shape};
 
 use crate::gates::Counter;
 use hk_base::{NoMemory, Shared};
-use hk_board_trials::{SampleMaker, Sampler};
 use hk_chain::{ItemNo, Kept, Layout};
+use hk_families::{SampleMaker, Sampler};
 use hk_fix::Maker;
 use hk_sched::Turn;
 use hk_workers::{Desk, Pass, Ready, open_desk, worker};

@@ -7,7 +7,7 @@ use Rattle.hk_chain.proofs.Layouts.{counts-layout}
 use Rattle.hk_fix.specs.Run.{IsRun}
 use Rattle.hk_fix.specs.Chains.{AllGroups, Saves}
 use Rattle.hk_fix.specs.ChainLaws.{chains-run}
-use Rattle.hk_board_trials.specs.Mutual.{mutual_shape, own_pair, last_pair, other_pair, mutual_task, mutual_run}
+use Rattle.hk_families.specs.Mutual.{mutual_shape, own_pair, last_pair, other_pair, mutual_task, mutual_run}
 
 pub mutual-is_shape : IsShape mutual_shape
 mutual-is_shape = (counts-layout (1 ∷ 1 ∷ []) (omega arith) (omega arith)).shape

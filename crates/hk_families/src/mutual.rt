@@ -2,7 +2,7 @@
 // after.
 ghost use Rattle.std.specs.Prelude.{◌≡◌, ◌<◌, ◌+◌, ◌∷◌, [], IfOk, true};
 ghost use Rattle.hk_fix.specs.Meaning.{fresh};
-ghost use Rattle.hk_board_trials.specs.Mutual.{own_pair, other_pair, last_pair, mutual_meaning, mutual_facts, Fits, Keeps, Finishes};
+ghost use Rattle.hk_families.specs.Mutual.{own_pair, other_pair, last_pair, mutual_meaning, mutual_facts, Fits, Keeps, Finishes};
 
 use hk_base::{NoMemory, Text};
 use hk_chain::{Facts, ItemNo, Kind, Mark, Page, PageRef, PairNo};
@@ -27,7 +27,7 @@ pub struct Mutual {
 
 impl Model for Mutual {
     ghost use Rattle.std.specs.Prelude.{◌≡◌, [], ◌∷◌};
-    ghost use Rattle.hk_board_trials.specs.Mutual.{MutualView, Fits, mutual_page, own_pair, other_pair};
+    ghost use Rattle.hk_families.specs.Mutual.{MutualView, Fits, mutual_page, own_pair, other_pair};
 
     ghost Value = { MutualView };
 
@@ -37,8 +37,8 @@ impl Model for Mutual {
 }
 
 impl Compiler for Mutual {
-    ghost use Rattle.hk_board_trials.specs.Mutual.{mutual_shape, mutual_run, mutual_meaning};
-    ghost use Rattle.hk_board_trials.specs.MutualLaws.{mutual-is_shape, mutual-is_run};
+    ghost use Rattle.hk_families.specs.Mutual.{mutual_shape, mutual_run, mutual_meaning};
+    ghost use Rattle.hk_families.specs.MutualLaws.{mutual-is_shape, mutual-is_run};
 
     type Common = bool;
 

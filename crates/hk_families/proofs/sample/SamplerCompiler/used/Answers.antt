@@ -1,8 +1,8 @@
 use Rattle.std.proofs.Common.{ℕ, subst, take}
 use Rattle.hk_fix.specs.Calls.{Lists}
-use Rattle.hk_board_trials.specs.Sample.{SampleView, sample_run, sample_meaning}
-use Rattle.hk_board_trials.proofs.SampleSteps.{used-are}
-use Rattle.hk_board_trials.proofs.sample.SamplerCompiler.used.Goals as goal
+use Rattle.hk_families.specs.Sample.{SampleView, sample_run, sample_meaning}
+use Rattle.hk_families.proofs.SampleSteps.{used-are}
+use Rattle.hk_families.proofs.sample.SamplerCompiler.used.Goals as goal
 
 pub returns : goal.returns
 returns c =

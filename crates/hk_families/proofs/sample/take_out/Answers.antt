@@ -1,7 +1,7 @@
 use Rattle.std.proofs.Common.{◌≡◌, sym, ap, ◌∙◌, arith, ℕ, ◌<◌, List, get_or, remove, length, eqb-true}
 use Rattle.std.proofs.lemmas.Grind.{get_or_default_zero}
-use Rattle.hk_board_trials.specs.SampleLaws.{taken-out}
-use Rattle.hk_board_trials.proofs.sample.take_out.Goals as goal
+use Rattle.hk_families.specs.SampleLaws.{taken-out}
+use Rattle.hk_families.proofs.sample.take_out.Goals as goal
 
 pub returns-then-eq : goal.returns-then-eq
 returns-then-eq c =

@@ -5,8 +5,8 @@ use Rattle.hk_fix.specs.Run.{Save, saves_of}
 use Rattle.hk_fix.specs.Facts.{is_in}
 use Rattle.hk_fix.specs.Meaning.{told_page}
 use Rattle.hk_fix.specs.Calls.{Lists}
-use Rattle.hk_board_trials.specs.Sample.{empty_page, own_pair, first_need, second_need, sample_run, told_of, left_of, SampleView, sample_told, sample_meaning, Fits}
-use Rattle.hk_board_trials.specs.SampleLaws.{saves-are, left-first, left-second, tell-second, needs-apart}
+use Rattle.hk_families.specs.Sample.{empty_page, own_pair, first_need, second_need, sample_run, told_of, left_of, SampleView, sample_told, sample_meaning, Fits}
+use Rattle.hk_families.specs.SampleLaws.{saves-are, left-first, left-second, tell-second, needs-apart}
 use Rattle.hk_fix.proofs.Orders.{clash, decide, or_cases, or_right}
 use Rattle.hk_fix.proofs.Trails.{or_left, in-append}
 use Rattle.hk_fix.proofs.Steps.{contains-in, in-contains}

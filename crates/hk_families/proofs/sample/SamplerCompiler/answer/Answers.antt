@@ -1,11 +1,11 @@
 use Rattle.std.proofs.Common.{◌≡◌, sym, ap, ◌∙◌, subst, arith, ℕ, ◌+◌, ◌≤◌, false, nat_eq, eqb-true, List, [], ◌∷◌, ◌++◌, take, set, length, length-set, Some, Contains}
 use Rattle.std.proofs.lemmas.List.{take_more_set, length-take-le}
 use Rattle.hk_fix.specs.Meaning.{told_page}
-use Rattle.hk_board_trials.specs.Sample.{first_need, second_need, SampleView, sample_meaning, Fits}
-use Rattle.hk_board_trials.specs.SampleLaws.{left-distinct, needs-apart}
-use Rattle.hk_board_trials.proofs.SampleSteps.{first-told, second-told, meaning-second, waits-first, waits-second, the-second}
-use Rattle.hk_board_trials.proofs.sample.SamplerCompiler.answer.Goals as goal
-use Rattle.hk_board_trials.proofs.sample.SamplerCompiler.answer.Goals.{in-Some-2, in-None-2}
+use Rattle.hk_families.specs.Sample.{first_need, second_need, SampleView, sample_meaning, Fits}
+use Rattle.hk_families.specs.SampleLaws.{left-distinct, needs-apart}
+use Rattle.hk_families.proofs.SampleSteps.{first-told, second-told, meaning-second, waits-first, waits-second, the-second}
+use Rattle.hk_families.proofs.sample.SamplerCompiler.answer.Goals as goal
+use Rattle.hk_families.proofs.sample.SamplerCompiler.answer.Goals.{in-Some-2, in-None-2}
 
 pub take_out-requires-clause-distinct : goal.take_out-requires-clause-distinct
 take_out-requires-clause-distinct c =

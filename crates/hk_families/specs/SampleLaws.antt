@@ -12,7 +12,7 @@ use Rattle.hk_fix.specs.Task.{done, fault, waits, run, answered}
 use Rattle.hk_fix.specs.Run.{Save, saves_of, IsRun}
 use Rattle.hk_fix.specs.Facts.{facts_of, whole_log}
 use Rattle.hk_fix.specs.Chains.{AllGroups, Saves}
-use Rattle.hk_board_trials.specs.Sample.{sample_shape, empty_page, own_pair, last_pair, first_need, second_need, sample_end, sample_task, sample_run, told_of, left_of}
+use Rattle.hk_families.specs.Sample.{sample_shape, empty_page, own_pair, last_pair, first_need, second_need, sample_end, sample_task, sample_run, told_of, left_of}
 use Rattle.hk_fix.specs.ChainLaws.{chains-run}
 
 pub sample-is_shape : IsShape sample_shape

@@ -4,7 +4,7 @@ ghost use Rattle.std.specs.Prelude.{◌≡◌, ◌+◌, ◌<◌, ℕ, List, [], 
 ghost use Rattle.std.specs.List.{IsDistinct};
 ghost use Rattle.hk_chain.specs.Facts.{group, save};
 ghost use Rattle.hk_fix.specs.Facts.{is_in};
-ghost use Rattle.hk_board_trials.specs.Sample.{own_pair, last_pair, first_need, second_need, sample_meaning};
+ghost use Rattle.hk_families.specs.Sample.{own_pair, last_pair, first_need, second_need, sample_meaning};
 ghost use Rattle.hk_fix.specs.Meaning.{fresh};
 
 use hk_base::{NoMemory, Text};
@@ -34,7 +34,7 @@ pub struct Sampler {
 
 impl Model for Sampler {
     ghost use Rattle.std.specs.Prelude.{◌≡◌, ◌≤◌, length, take};
-    ghost use Rattle.hk_board_trials.specs.Sample.{SampleView, Fits, empty_page, own_pair, last_pair, first_need, second_need, left_of};
+    ghost use Rattle.hk_families.specs.Sample.{SampleView, Fits, empty_page, own_pair, last_pair, first_need, second_need, left_of};
 
     ghost Value = { SampleView };
 
@@ -44,8 +44,8 @@ impl Model for Sampler {
 }
 
 impl Compiler for Sampler {
-    ghost use Rattle.hk_board_trials.specs.Sample.{sample_shape, sample_run, sample_meaning};
-    ghost use Rattle.hk_board_trials.specs.SampleLaws.{sample-is_shape, sample-is_run};
+    ghost use Rattle.hk_families.specs.Sample.{sample_shape, sample_run, sample_meaning};
+    ghost use Rattle.hk_families.specs.SampleLaws.{sample-is_shape, sample-is_run};
 
     type Common = u32;
 
