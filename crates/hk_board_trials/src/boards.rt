@@ -59,12 +59,20 @@ fn begun(board: &mut Board<Mutual>) -> Result<ItemNo, Fail>
     }
 }
 
-/// The item that is out after each of two ends: a save and a finish, and a failure.
-pub fn saves_and_ends(alloc: Global) -> Result<String, Fail> {
+/// The item that is out after its page on the way was saved twice.
+pub fn saves(alloc: Global) -> Result<String, Fail> {
     let mut board = opened(alloc)?;
     let item = begun(&mut board)?;
     board.save(PairNo(0), page(alloc)?);
     board.save(PairNo(0), page(alloc)?);
+    let out = board.first_out();
+    Ok(format!(in alloc; "{item:?} {out:?}")?)
+}
+
+/// The item that is out after the first one finished, after the second one began and after it failed.
+pub fn ends(alloc: Global) -> Result<String, Fail> {
+    let mut board = opened(alloc)?;
+    let item = begun(&mut board)?;
     board.finish(item, page(alloc)?, no_facts(alloc));
     let first = board.first_out();
     let item = begun(&mut board)?;

@@ -28,7 +28,8 @@ fn main(rt: HostRuntime) -> Result<(), Fail> {
     println!(rt; "groups -> {}", runs::groups(alloc)?)?;
     println!(rt; "one kept -> {}", runs::kept(alloc)?)?;
     println!(rt; "fresh turns -> {}", boards::fresh_turns(alloc)?)?;
-    println!(rt; "saves and ends -> {}", boards::saves_and_ends(alloc)?)?;
+    println!(rt; "saves -> {}", boards::saves(alloc)?)?;
+    println!(rt; "ends -> {}", boards::ends(alloc)?)?;
     println!(rt;
         "admitted while out -> {}",
         boards::admits_while_out(alloc)?
