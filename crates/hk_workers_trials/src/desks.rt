@@ -5,6 +5,7 @@ ghost use Rattle.hk_families.specs.Sample.{sample_shape};
 use crate::gates::Counter;
 use hk_base::{NoMemory, Shared};
 use hk_chain::{ItemNo, Kept, Layout};
+use hk_families::{SampleMaker, Sampler};
 use hk_fix::{Maker, Results};
 use hk_outside::OpenGate;
 use hk_sched::Turn;
