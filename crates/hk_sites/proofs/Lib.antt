@@ -1,0 +1,6 @@
+pub mod CleanBuilds
+pub mod Fingerprints
+pub mod OwnPatterns
+pub mod PlanSites
+pub mod Runs
+pub mod Storables

@@ -1,0 +1,50 @@
+-- Builds of plans by the machine's runs, clean and over stored entries.
+use Rattle.std.specs.Prelude.{◌≡◌, ℕ, ◌<◌, length}
+use Rattle.hk_chain.specs.declared.page.Page.{Page}
+use Rattle.hk_fix.specs.Fix.{Ending, fix, status}
+use Rattle.hk_fix.specs.Pages.{Pages}
+use Rattle.hk_fix.specs.Task.{Run}
+use Rattle.hk_machine.specs.Machine.{plan_shape, plan_run}
+use Rattle.hk_rules.specs.MadePlan.{IsMadePlan}
+use Rattle.hk_rules.specs.PlanView.{PlanView}
+use Rattle.hk_store.specs.Digests.{Digests}
+use Rattle.hk_reuse.specs.Entries.{Entries}
+use Rattle.hk_reuse.specs.Image.{entries_of}
+use Rattle.hk_reuse.specs.Over.{over}
+use Rattle.hk_reuse.specs.Rebuilt.{TellApart}
+use Rattle.hk_reuse.specs.Site.{no_seeds}
+use Rattle.hk_sites.specs.PlanSite.{site_of, items_of}
+use Rattle.hk_sites.specs.Sizes.{HasSizes}
+
+-- the pages of a build by some runs of a plan's items, how these end, and the entries that the build leaves
+abbrev pub pages_by : PlanView → (ℕ → Pages → Run Page) → Pages
+pages_by plan run = fix (plan_shape plan) run no_seeds
+
+abbrev pub ends_by : PlanView → (ℕ → Pages → Run Page) → ℕ → Ending
+ends_by plan run = status (plan_shape plan) run no_seeds
+
+abbrev pub entries_by : Digests → PlanView → (ℕ → Pages → Run Page) → Entries
+entries_by dig plan run = entries_of dig (items_of plan) (ends_by plan run) (pages_by plan run)
+
+-- the entries that a clean build leaves
+abbrev pub clean_entries : Digests → PlanView → Entries
+clean_entries dig plan = entries_by dig plan (plan_run plan)
+
+-- the runs over entries: the replay of each item that has a fitting one
+abbrev pub run_over : Digests → PlanView → Entries → ℕ → Pages → Run Page
+run_over dig plan entries = over dig (items_of plan) entries (plan_run plan)
+
+-- two plans as rules make them, of which one is built over what the other left: equal digests of what is compared mean
+-- equal things
+pub record AreApart (dig : Digests) (old new : PlanView) : Type 0 where
+  pub was : IsMadePlan old
+  pub now : IsMadePlan new
+  pub was_sized : HasSizes old
+  pub now_sized : HasSizes new
+  pub apart : TellApart dig (site_of old) (site_of new)
+
+-- a build over entries gives the pages, the ends and the entries of a clean build
+pub record IsCleanBuild (dig : Digests) (plan : PlanView) (entries : Entries) : Type 0 where
+  pub pages : pages_by plan (run_over dig plan entries) ≡ pages_by plan (plan_run plan)
+  pub ends : (item : ℕ) → item < length plan.items → ends_by plan (run_over dig plan entries) item ≡ ends_by plan (plan_run plan) item
+  pub left : entries_by dig plan (run_over dig plan entries) ≡ clean_entries dig plan

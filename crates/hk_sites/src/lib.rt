@@ -1,0 +1,12 @@
+//! Plans that rules make are sites of the theorem on reuse.
+#![tactic(auto)]
+
+mod building;
+mod rebuilding;
+mod sites;
+mod telling;
+
+pub use building::runs_are_deeds;
+pub use rebuilding::rebuilds_of_plans_are_clean;
+pub use sites::plans_are_sites;
+pub use telling::fingerprints_tell;
