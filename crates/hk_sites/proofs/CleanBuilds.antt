@@ -31,7 +31,7 @@ module _ (dig : Digests) (old new : PlanView) (apart : AreApart dig old new) whe
         was = is-site old apart.was;
         now = is-site new apart.now;
         apart = apart.apart;
-        told = texts-tell old new apart.was apart.now apart.was_sized apart.now_sized;
+        told = texts-tell old new apart.was apart.now apart.was_limited apart.now_limited apart.short;
       }
 
   abbrev inner : ℕ → Pages → Run Page

@@ -21,13 +21,13 @@ use Rattle.hk_store.specs.RecipeText.{IsPatternText, IsLimit, FieldFits, Context
 use Rattle.hk_store.specs.Told.{Small}
 use Rattle.hk_sites.proofs.PlanSites.{inside}
 use Rattle.hk_sites.specs.PlanSite.{site_of}
-use Rattle.hk_sites.specs.Sizes.{IsSmallField, HasSizes}
+use Rattle.hk_sites.specs.Sizes.{IsSmallField, HasLimits, HasTexts}
 
 limit-fits : (limit : Option ℕ) → IfSome limit (λ most. 1 ≤ most) → IfSome limit Small → IsLimit limit
 limit-fits None h s = tt
 limit-fits (Some most) h s = (h, s)
 
-module _ (plan : PlanView) (made : IsMadePlan plan) (sizes : HasSizes plan) where
+module _ (plan : PlanView) (made : IsMadePlan plan) (limits : HasLimits plan) where
   abbrev IsOwn : Field → Type 0
   IsOwn = IsLinkedField (length plan.contexts) (length plan.patterns)
 
@@ -57,7 +57,7 @@ module _ (plan : PlanView) (made : IsMadePlan plan) (sizes : HasSizes plan) wher
   contexts-fit : (numbers : List ℕ) → AllByRecursion ContextFits (map (named_context (lookups plan)) numbers)
   unfolding lookups
   contexts-fit [] = tt
-  contexts-fit (c ∷ numbers) = (context-fits plan.contexts c made.linked.named.within sizes.limits, contexts-fit numbers)
+  contexts-fit (c ∷ numbers) = (context-fits plan.contexts c made.linked.named.within limits, contexts-fit numbers)
 
   pub recipe-fits : (i : ℕ) → i < length plan.items → RecipeFits (recipe_of plan i)
   unfolding recipe_of
@@ -67,10 +67,10 @@ module _ (plan : PlanView) (made : IsMadePlan plan) (sizes : HasSizes plan) wher
         contexts = contexts-fit _;
       }
 
-pub texts-tell : (old new : PlanView) → IsMadePlan old → IsMadePlan new → HasSizes old → HasSizes new → TextsTell (site_of old) (site_of new)
+pub texts-tell : (old new : PlanView) → IsMadePlan old → IsMadePlan new → HasLimits old → HasLimits new → HasTexts old → TextsTell (site_of old) (site_of new)
 unfolding deeds_of table_of
-texts-tell old new was now was_sized now_sized i j lt less ids texts =
+texts-tell old new was now was_limited now_limited short i j lt less ids texts =
     let here = inside old was i lt in
     let there = inside new now j less in
-    let same = same-recipe (recipe_of old i) (recipe_of new j) (recipe-fits old was was_sized i here) (recipe-fits new now now_sized j there) (was_sized.texts i here) texts in
+    let same = same-recipe (recipe_of old i) (recipe_of new j) (recipe-fits old was was_limited i here) (recipe-fits new now now_limited j there) (short i here) texts in
     ap (chain_deed (id_at old i)) same ∙ ap (λ id. chain_deed id (recipe_of new j)) ids

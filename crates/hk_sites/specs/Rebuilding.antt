@@ -14,7 +14,7 @@ use Rattle.hk_reuse.specs.Over.{over}
 use Rattle.hk_reuse.specs.Rebuilt.{TellApart}
 use Rattle.hk_reuse.specs.Site.{no_seeds}
 use Rattle.hk_sites.specs.PlanSite.{site_of, items_of}
-use Rattle.hk_sites.specs.Sizes.{HasSizes}
+use Rattle.hk_sites.specs.Sizes.{HasLimits, HasTexts}
 
 -- the pages of a build by some runs of a plan's items, how these end, and the entries that the build leaves
 abbrev pub pages_by : PlanView → (ℕ → Pages → Run Page) → Pages
@@ -39,8 +39,9 @@ run_over dig plan entries = over dig (items_of plan) entries (plan_run plan)
 pub record AreApart (dig : Digests) (old new : PlanView) : Type 0 where
   pub was : IsMadePlan old
   pub now : IsMadePlan new
-  pub was_sized : HasSizes old
-  pub now_sized : HasSizes new
+  pub was_limited : HasLimits old
+  pub now_limited : HasLimits new
+  pub short : HasTexts old
   pub apart : TellApart dig (site_of old) (site_of new)
 
 -- a build over entries gives the pages, the ends and the entries of a clean build

@@ -8,12 +8,14 @@ use Rattle.hk_rules.specs.Recipe.{recipe_of}
 use Rattle.hk_store.specs.RecipeText.{recipe_text}
 use Rattle.hk_store.specs.Told.{Small, Short}
 
--- a list's limit is below 2^64
+-- the limits of a plan's lists are below 2^64
 abbrev pub IsSmallField : Field → Type 0
 IsSmallField (ListField key of snapshot order limit context) = IfSome limit Small
 IsSmallField _ = Unit {0}
 
--- the limits of its lists, and the lengths of its items' fingerprints, are below 2^64
-pub record HasSizes (plan : PlanView) : Type 0 where
-  pub limits : AllByRecursion (λ context. AllByRecursion IsSmallField context.fields) plan.contexts
-  pub texts : (i : ℕ) → i < length plan.items → Short (recipe_text (recipe_of plan i))
+abbrev pub HasLimits : PlanView → Type 0
+HasLimits plan = AllByRecursion (λ context. AllByRecursion IsSmallField context.fields) plan.contexts
+
+-- and so are the lengths of its items' fingerprints
+abbrev pub HasTexts : PlanView → Type 0
+HasTexts plan = (item : ℕ) → item < length plan.items → Short (recipe_text (recipe_of plan item))

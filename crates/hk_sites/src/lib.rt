@@ -2,11 +2,13 @@
 #![tactic(auto)]
 
 mod building;
+mod making;
 mod rebuilding;
 mod sites;
 mod telling;
 
 pub use building::runs_are_deeds;
+pub use making::rules_make_plans;
 pub use rebuilding::rebuilds_of_plans_are_clean;
 pub use sites::plans_are_sites;
 pub use telling::fingerprints_tell;
