@@ -1,5 +1,6 @@
 pub mod CleanBuilds
 pub mod Fingerprints
+pub mod KeptItems
 pub mod MadePlans
 pub mod OwnPatterns
 pub mod PlanSites

@@ -1,7 +1,7 @@
 -- Builds of plans by the machine's runs, clean and over stored entries.
-use Rattle.std.specs.Prelude.{◌≡◌, ℕ, ◌<◌, length}
+use Rattle.std.specs.Prelude.{◌≡◌, ℕ, ◌<◌, Bool, List, [], ◌∷◌, length}
 use Rattle.hk_chain.specs.declared.page.Page.{Page}
-use Rattle.hk_fix.specs.Fix.{Ending, fix, status}
+use Rattle.hk_fix.specs.Fix.{Seeds, Ending, fix, status}
 use Rattle.hk_fix.specs.Pages.{Pages}
 use Rattle.hk_fix.specs.Task.{Run}
 use Rattle.hk_machine.specs.Machine.{plan_shape, plan_run}
@@ -9,7 +9,9 @@ use Rattle.hk_rules.specs.MadePlan.{IsMadePlan}
 use Rattle.hk_rules.specs.PlanView.{PlanView}
 use Rattle.hk_store.specs.Digests.{Digests}
 use Rattle.hk_reuse.specs.Entries.{Entries}
+use Rattle.hk_reuse.specs.Histories.{kept_seeds}
 use Rattle.hk_reuse.specs.Image.{entries_of}
+use Rattle.hk_reuse.specs.Kept.{kept_among}
 use Rattle.hk_reuse.specs.Over.{over}
 use Rattle.hk_reuse.specs.Rebuilt.{TellApart}
 use Rattle.hk_reuse.specs.Site.{no_seeds}
@@ -49,3 +51,26 @@ pub record IsCleanBuild (dig : Digests) (plan : PlanView) (entries : Entries) : 
   pub pages : pages_by plan (run_over dig plan entries) ≡ pages_by plan (plan_run plan)
   pub ends : (item : ℕ) → item < length plan.items → ends_by plan (run_over dig plan entries) item ≡ ends_by plan (plan_run plan) item
   pub left : entries_by dig plan (run_over dig plan entries) ≡ clean_entries dig plan
+
+-- whether a build over entries goes on with what is stored for an item
+abbrev pub keeps : Digests → PlanView → Entries → ℕ → Bool
+keeps dig plan entries = kept_among dig (items_of plan) (pages_by plan (run_over dig plan entries)) entries
+
+-- the pages and facts of the items with which it does
+abbrev pub seeds_of_kept : Digests → PlanView → Entries → Seeds
+seeds_of_kept dig plan entries =
+    kept_seeds (plan_shape plan) (keeps dig plan entries) (pages_by plan (run_over dig plan entries)) (ends_by plan (run_over dig plan entries))
+
+-- the entries after one build after another, each over the entries that the one before left
+abbrev pub entries_after : Digests → Entries → List PlanView → Entries
+entries_after dig entries [] = entries
+entries_after dig entries (plan ∷ plans) = entries_after dig (entries_by dig plan (run_over dig plan entries)) plans
+
+-- each plan and the next are apart
+abbrev pub AreLinked : Digests → PlanView → List PlanView → Type 0
+AreLinked dig plan [] = Unit {0}
+AreLinked dig plan (next ∷ plans) = AreApart dig plan next × AreLinked dig next plans
+
+abbrev pub last_of : PlanView → List PlanView → PlanView
+last_of plan [] = plan
+last_of plan (next ∷ plans) = last_of next plans

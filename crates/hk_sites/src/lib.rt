@@ -2,13 +2,15 @@
 #![tactic(auto)]
 
 mod building;
+mod keeping;
 mod making;
 mod rebuilding;
 mod sites;
 mod telling;
 
 pub use building::runs_are_deeds;
+pub use keeping::kept_items_of_plans;
 pub use making::rules_make_plans;
-pub use rebuilding::rebuilds_of_plans_are_clean;
+pub use rebuilding::{chains_of_plans_are_clean, rebuilds_of_plans_are_clean};
 pub use sites::plans_are_sites;
 pub use telling::fingerprints_tell;
