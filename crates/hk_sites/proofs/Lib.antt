@@ -5,4 +5,6 @@ pub mod MadePlans
 pub mod OwnPatterns
 pub mod PlanSites
 pub mod Runs
+pub mod SmallFields
+pub mod SmallRules
 pub mod Storables
