@@ -1,6 +1,7 @@
 pub mod CleanBuilds
 pub mod Fingerprints
 pub mod KeptItems
+pub mod Lawful
 pub mod MadePlans
 pub mod OwnPatterns
 pub mod PlanSites

@@ -3,6 +3,7 @@
 
 mod building;
 mod keeping;
+mod leaving;
 mod making;
 mod rebuilding;
 mod sites;
@@ -10,6 +11,7 @@ mod telling;
 
 pub use building::runs_are_deeds;
 pub use keeping::kept_items_of_plans;
+pub use leaving::builds_of_plans_leave_stores;
 pub use making::rules_make_plans;
 pub use rebuilding::{chains_of_plans_are_clean, rebuilds_of_plans_are_clean};
 pub use sites::plans_are_sites;

@@ -1,0 +1,34 @@
+// Why a build of a plan over stored entries is a run of lawful compilers that leaves a store.
+ghost use Rattle.std.specs.Prelude.{◌≡◌, ℕ, ◌<◌, length};
+ghost use Rattle.std.specs.List.{AllByRecursion};
+ghost use Rattle.hk_chain.specs.Facts.{FactsView};
+ghost use Rattle.hk_chain.specs.Kept.{none_kept};
+ghost use Rattle.hk_chain.specs.Layout.{Shape};
+ghost use Rattle.hk_fix.specs.Fix.{IsSetting, finished, seeds_of};
+ghost use Rattle.hk_machine.specs.Machine.{plan_shape};
+ghost use Rattle.hk_reuse.specs.Entries.{AreFormed, Entries, entries_in};
+ghost use Rattle.hk_reuse.specs.Image.{entry_list};
+ghost use Rattle.hk_reuse.specs.Site.{no_seeds};
+ghost use Rattle.hk_rules.specs.MadePlan.{IsMadePlan};
+ghost use Rattle.hk_rules.specs.PlanView.{PlanView};
+ghost use Rattle.hk_store.specs.Digests.{Digests};
+ghost use Rattle.hk_store.specs.Stored.{IsStored};
+ghost use Rattle.hk_sites.specs.PlanSite.{items_of};
+ghost use Rattle.hk_sites.specs.Rebuilding.{ends_by, entries_by, pages_by, run_over};
+
+/// Whatever well-formed entries there are, the runs of a plan's items over them keep all laws of a family of compilers, and
+/// the facts of an item that is done name patterns of the plan alone. What the build leaves, in the order of the items, is a
+/// store, in which an entry is found by its item's identifier. Where nothing is kept there are no seeds.
+pub fn builds_of_plans_leave_stores()
+    ensures laws { (dig : Digests) (plan : PlanView) (entries : Entries) → IsMadePlan plan → AreFormed entries
+        → IsSetting (plan_shape plan) (run_over dig plan entries) no_seeds }
+    ensures patterns { (dig : Digests) (plan : PlanView) (entries : Entries) (item : ℕ) (facts : FactsView) → IsMadePlan plan
+        → AreFormed entries → item < length plan.items → ends_by plan (run_over dig plan entries) item ≡ finished facts
+        → AllByRecursion (λ n. n < length plan.patterns) facts.patterns }
+    ensures stored { (dig : Digests) (plan : PlanView) (entries : Entries) → IsMadePlan plan → AreFormed entries
+        → IsStored (entry_list dig (items_of plan) (ends_by plan (run_over dig plan entries)) (pages_by plan (run_over dig plan entries))) }
+    ensures listed { (dig : Digests) (plan : PlanView) (entries : Entries) → IsMadePlan plan
+        → entries_in (entry_list dig (items_of plan) (ends_by plan (run_over dig plan entries)) (pages_by plan (run_over dig plan entries)))
+        ≡ entries_by dig plan (run_over dig plan entries) }
+    ensures seeds { (lay : Shape) → seeds_of (none_kept lay) ≡ no_seeds }
+{}
