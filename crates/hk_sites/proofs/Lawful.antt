@@ -20,7 +20,7 @@ use Rattle.hk_rules.specs.Pairs.{count_of}
 use Rattle.hk_rules.specs.Plan.{lookups}
 use Rattle.hk_rules.specs.PlanView.{PlanView}
 use Rattle.hk_store.specs.Digests.{Digests}
-use Rattle.hk_store.specs.Stored.{IsStored}
+use Rattle.hk_store.specs.Stored.{HeldId, AreHeld, IsStored}
 use Rattle.hk_reuse.proofs.Images.{facts-below}
 use Rattle.hk_reuse.proofs.Listings.{entries-listed}
 use Rattle.hk_reuse.proofs.Over.{over-laws, over-below}
@@ -30,11 +30,12 @@ use Rattle.hk_reuse.specs.Entries.{Entries, AreFormed, entries_in}
 use Rattle.hk_reuse.specs.Image.{entry_list}
 use Rattle.hk_reuse.specs.Over.{SameRuns}
 use Rattle.hk_reuse.specs.Site.{clean_run, no_seeds, shape_of}
-use Rattle.hk_sites.proofs.PlanSites.{plan-shape, is-site, are-items, uses-own}
+use Rattle.hk_sites.proofs.HeldIds.{id-held, matches-held, list-held}
+use Rattle.hk_sites.proofs.PlanSites.{plan-shape, inside, is-site, are-items, uses-own}
 use Rattle.hk_sites.proofs.Runs.{runs-same}
 use Rattle.hk_sites.proofs.Storables.{are-storable}
 use Rattle.hk_sites.specs.PlanSite.{site_of, items_of}
-use Rattle.hk_sites.specs.Rebuilding.{pages_by, ends_by, entries_by, run_over}
+use Rattle.hk_sites.specs.Rebuilding.{HasDigests, pages_by, ends_by, entries_by, run_over}
 
 -- a family that runs as a lawful one is lawful
 module _ (lay : Shape) (a b : ℕ → Pages → Run Page) (same : SameRuns lay a b) (laws : IsRun lay b) where
@@ -93,6 +94,12 @@ module _ (dig : Digests) (plan : PlanView) (made : IsMadePlan plan) (entries : E
     unfolding table_of lookups
     left-stored =
         list-stored dig (items_of plan) (are-storable plan made) (pages_by plan run) (ends_by plan run)
+        (λ i facts lt e. status-facts (plan_shape plan) run no_seeds setting (λ j g less w. cc) i facts lt e)
+
+    pub left-held : HasDigests dig → AllByRecursion (λ item. HeldId item.0) plan.items → AreHeld (entry_list dig (items_of plan) (ends_by plan run) (pages_by plan run))
+    unfolding table_of lookups
+    left-held sound held =
+        list-held dig sound (items_of plan) (are-storable plan made) (pages_by plan run) (λ i lt. id-held plan held i (inside plan made i lt)) (matches-held plan held) (ends_by plan run)
         (λ i facts lt e. status-facts (plan_shape plan) run no_seeds setting (λ j g less w. cc) i facts lt e)
 
   pub left-listed : entries_in (entry_list dig (items_of plan) (ends_by plan run) (pages_by plan run)) ≡ entries_by dig plan run

@@ -1,5 +1,6 @@
 pub mod CleanBuilds
 pub mod Fingerprints
+pub mod HeldIds
 pub mod KeptItems
 pub mod Lawful
 pub mod MadePlans

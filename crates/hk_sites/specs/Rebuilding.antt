@@ -1,13 +1,16 @@
 -- Builds of plans by the machine's runs, clean and over stored entries.
 use Rattle.std.specs.Prelude.{◌≡◌, ℕ, ◌<◌, Bool, List, [], ◌∷◌, length}
+use Rattle.hk_base.specs.Bytes.{Bytes}
 use Rattle.hk_chain.specs.declared.page.Page.{Page}
 use Rattle.hk_fix.specs.Fix.{Seeds, Ending, fix, status}
 use Rattle.hk_fix.specs.Pages.{Pages}
+use Rattle.hk_fix.specs.Table.{Traits}
 use Rattle.hk_fix.specs.Task.{Run}
 use Rattle.hk_machine.specs.Machine.{plan_shape, plan_run}
 use Rattle.hk_rules.specs.MadePlan.{IsMadePlan}
 use Rattle.hk_rules.specs.PlanView.{PlanView}
 use Rattle.hk_store.specs.Digests.{Digests}
+use Rattle.hk_store.specs.Stored.{IsDigest}
 use Rattle.hk_reuse.specs.Entries.{Entries}
 use Rattle.hk_reuse.specs.Histories.{kept_seeds}
 use Rattle.hk_reuse.specs.Image.{entries_of}
@@ -35,6 +38,12 @@ clean_entries dig plan = entries_by dig plan (plan_run plan)
 -- the runs over entries: the replay of each item that has a fitting one
 abbrev pub run_over : Digests → PlanView → Entries → ℕ → Pages → Run Page
 run_over dig plan entries = over dig (items_of plan) entries (plan_run plan)
+
+-- each digest has the form of one
+pub record HasDigests (dig : Digests) : Type 0 where
+  pub text : (text : Bytes) → IsDigest (dig.text text)
+  pub page : (page : Page) → IsDigest (dig.page page)
+  pub traits : (traits : Traits) → IsDigest (dig.traits traits)
 
 -- two plans as rules make them, of which one is built over what the other left: equal digests of what is compared mean
 -- equal things
