@@ -7,6 +7,7 @@ pub mod MadePlans
 pub mod OwnPatterns
 pub mod PlanSites
 pub mod Runs
+pub mod ShaDigests
 pub mod SmallFields
 pub mod SmallRules
 pub mod Storables

@@ -16,13 +16,14 @@ ghost use Rattle.hk_rules.specs.PlanView.{PlanView};
 ghost use Rattle.hk_rules.specs.Planning.{plan_of};
 ghost use Rattle.hk_store.specs.Digests.{Digests};
 ghost use Rattle.hk_store.specs.Stored.{AreHeld, IsStored};
+ghost use Rattle.hk_store.specs.Traits.{sha_digests};
 ghost use Rattle.hk_sites.specs.PlanSite.{items_of};
 ghost use Rattle.hk_sites.specs.Rebuilding.{HasDigests, ends_by, entries_by, pages_by, run_over};
 
 /// Whatever well-formed entries there are, the runs of a plan's items over them keep all laws of a family of compilers, and
 /// the facts of an item that is done name patterns of the plan alone. What the build leaves, in the order of the items, is a
 /// store, in which an entry is found by its item's identifier, and its identifiers and digests are of their form where the
-/// plan's items are those of rules. Where nothing is kept there are no seeds.
+/// plan's items are those of rules; the digests by SHA-256 are of the form of one. Where nothing is kept there are no seeds.
 pub fn builds_of_plans_leave_stores()
     ensures laws { (dig : Digests) (plan : PlanView) (entries : Entries) → IsMadePlan plan → AreFormed entries
         → IsSetting (plan_shape plan) (run_over dig plan entries) no_seeds }
@@ -34,6 +35,7 @@ pub fn builds_of_plans_leave_stores()
     ensures held { (dig : Digests) (rules : RulesView) (files : List (Bytes × Bytes)) (plan : PlanView) (entries : Entries)
         → plan_of rules files ≡ Ok plan → IsMadePlan plan → AreFormed entries → HasDigests dig
         → AreHeld (entry_list dig (items_of plan) (ends_by plan (run_over dig plan entries)) (pages_by plan (run_over dig plan entries))) }
+    ensures digests { HasDigests sha_digests }
     ensures listed { (dig : Digests) (plan : PlanView) (entries : Entries) → IsMadePlan plan
         → entries_in (entry_list dig (items_of plan) (ends_by plan (run_over dig plan entries)) (pages_by plan (run_over dig plan entries)))
         ≡ entries_by dig plan (run_over dig plan entries) }

@@ -1,5 +1,6 @@
 use Rattle.hk_sites.proofs.HeldIds.{plan-held}
 use Rattle.hk_sites.proofs.Lawful.{setting, used-below, left-stored, left-held, left-listed, nothing-kept}
+use Rattle.hk_sites.proofs.ShaDigests.{sha-sound}
 use Rattle.hk_sites.proofs.leaving.builds_of_plans_leave_stores.Goals as goal
 
 pub returns-clause-laws : goal.returns-clause-laws
@@ -19,3 +20,6 @@ returns-clause-listed c = λ dig plan entries made. left-listed dig plan made en
 
 pub returns-clause-seeds : goal.returns-clause-seeds
 returns-clause-seeds c = nothing-kept
+
+pub returns-clause-digests : goal.returns-clause-digests
+returns-clause-digests c = sha-sound
