@@ -10,10 +10,11 @@ use Rattle.hk_machine.specs.Machine.{plan_shape, plan_run}
 use Rattle.hk_rules.specs.MadePlan.{IsMadePlan}
 use Rattle.hk_rules.specs.PlanView.{PlanView}
 use Rattle.hk_store.specs.Digests.{Digests}
+use Rattle.hk_store.specs.Entry.{EntryView}
 use Rattle.hk_store.specs.Stored.{IsDigest}
 use Rattle.hk_reuse.specs.Entries.{Entries}
 use Rattle.hk_reuse.specs.Histories.{kept_seeds}
-use Rattle.hk_reuse.specs.Image.{entries_of}
+use Rattle.hk_reuse.specs.Image.{entries_of, entry_list}
 use Rattle.hk_reuse.specs.Kept.{kept_among}
 use Rattle.hk_reuse.specs.Over.{over}
 use Rattle.hk_reuse.specs.Rebuilt.{TellApart}
@@ -30,6 +31,10 @@ ends_by plan run = status (plan_shape plan) run no_seeds
 
 abbrev pub entries_by : Digests → PlanView → (ℕ → Pages → Run Page) → Entries
 entries_by dig plan run = entries_of dig (items_of plan) (ends_by plan run) (pages_by plan run)
+
+-- the same in the order of the items
+abbrev pub list_by : Digests → PlanView → (ℕ → Pages → Run Page) → List EntryView
+list_by dig plan run = entry_list dig (items_of plan) (ends_by plan run) (pages_by plan run)
 
 -- the entries that a clean build leaves
 abbrev pub clean_entries : Digests → PlanView → Entries

@@ -12,7 +12,8 @@ ghost use Rattle.hk_sites.specs.Sizes.{HasLimits};
 /// The plan that linked rules make of files has the form of one, is linked, and has the headers of its items' files. Where
 /// the rules were read of a file, the limits of the plan's lists are below 2^64.
 pub fn rules_make_plans()
-    ensures made { (rules : RulesView) (files : List (Bytes × Bytes)) (plan : PlanView) → plan_of rules files ≡ Ok plan → IsLinked rules → IsMadePlan plan }
+    ensures made { (rules : RulesView) (files : List (Bytes × Bytes)) (plan : PlanView) → plan_of rules files ≡ Ok plan
+        → IsLinked rules → IsMadePlan plan }
     ensures limited { (bytes : Bytes) (rules : RulesView) (files : List (Bytes × Bytes)) (plan : PlanView) → rules_of bytes ≡ Ok rules
         → plan_of rules files ≡ Ok plan → HasLimits plan }
 {}

@@ -12,5 +12,6 @@ ghost use Rattle.hk_sites.specs.Sizes.{HasLimits, HasTexts};
 /// text of its fingerprint, whatever plan it is of: of two items with one text, below 2^64 in length, the deeds are equal.
 pub fn fingerprints_tell()
     ensures fits { (plan : PlanView) (item : ℕ) → IsMadePlan plan → HasLimits plan → item < length plan.items → RecipeFits (recipe_of plan item) }
-    ensures texts { (old new : PlanView) → IsMadePlan old → IsMadePlan new → HasLimits old → HasLimits new → HasTexts old → TextsTell (site_of old) (site_of new) }
+    ensures texts { (old new : PlanView) → IsMadePlan old → IsMadePlan new → HasLimits old → HasLimits new → HasTexts old
+        → TextsTell (site_of old) (site_of new) }
 {}
