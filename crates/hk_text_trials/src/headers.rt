@@ -36,7 +36,7 @@ pub fn companion(alloc: Global, text: &[u8]) -> Result<String, Fail> {
     }
 }
 
-/// The pairs of a header and a companion, and the value of the key `k`.
+/// The pairs of a header and a companion together.
 pub fn both(alloc: Global, file: &[u8], text: &[u8]) -> Result<String, Fail> {
     let parts = split(alloc, file)?;
     let companion = read_companion(alloc, text)?;
