@@ -92,8 +92,8 @@ file-done (Some target) (waiting ps) page h = cc
 
 none-left : (r : ReportView) → is_empty r ≡ true → IsEmptyReport r
 none-left r e =
-    let rest = right-part (length r.failed == 0) ((length r.cycles == 0) && (length r.blocked == 0)) e in
-    ( nil_from_length r.failed (eqb-true (length r.failed) 0 (left-part (length r.failed == 0) ((length r.cycles == 0) && (length r.blocked == 0)) e)),
+    let rest = right-part (length r.failed == 0) ((length r.cycles == 0) && (length r.blocked == 0)) e in (
+      nil_from_length r.failed (eqb-true (length r.failed) 0 (left-part (length r.failed == 0) ((length r.cycles == 0) && (length r.blocked == 0)) e)),
       nil_from_length r.cycles (eqb-true (length r.cycles) 0 (left-part (length r.cycles == 0) (length r.blocked == 0) rest)),
       nil_from_length r.blocked (eqb-true (length r.blocked) 0 (right-part (length r.cycles == 0) (length r.blocked == 0) rest)),
     )
