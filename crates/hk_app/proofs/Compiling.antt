@@ -49,6 +49,7 @@ compiled plan r h =
     let ending : ℕ → Ending = status (plan_shape plan) (plan_run plan) (no_seeds plan) in
     let same : r.outcomes ≡ map ending (upto (plan_shape plan).items) = all-upto ending (plan_shape plan).items r.outcomes h.outcome_count h.outcomes in
     record {
+      complete = h.complete;
       pages = h.pages;
       endings = same ∙ ap (λ n. map ending (upto n)) (shape-items plan);
       reported = h.reports;

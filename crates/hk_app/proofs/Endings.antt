@@ -6,6 +6,7 @@ use Rattle.hk_base.specs.declared.refusal.NoMemory.{NoMemory as NoMemory-data}
 use Rattle.hk_outside.specs.Causes.{Rose}
 use Rattle.hk_rules.specs.PlanView.{PlanView}
 use Rattle.hk_words.specs.Usage.{usage}
+use Rattle.hk_words.specs.declared.commands.BuildOptions.{BuildOptions}
 use Rattle.hk_words.specs.declared.commands.Command.{Command}
 use Rattle.hk_words.specs.declared.commands.Command.TheVariants.{Build, Check}
 use Rattle.hk_app.specs.declared.ended.Ended.{Ended}
@@ -13,9 +14,9 @@ use Rattle.hk_app.specs.declared.status.Status.{Status}
 use Rattle.hk_app.specs.declared.status.Status.TheVariants.{Ok as Done, Report, Usage, BadRules, BadSite, ReadFault, WriteFault, OutFault, NoMemory}
 use Rattle.hk_words.specs.Words.{command}
 use Rattle.hk_app.specs.Gathering.{RefusesFolder}
-use Rattle.hk_app.specs.Promise.{Always, Plans, AllEnd, IsBuilt, IsReported, IsShown, IsWriteFault, IsUnwritten, IsStopped, IsBadRules, IsBadSite, Comes, Holds, Says, IsPartlyBuilt, IsWhollyBuilt, count_line}
+use Rattle.hk_app.specs.Promise.{Always, Plans, AllEnd, IsBuilt, SomeStop, IsSaid, IsReported, IsNamed, IsShown, IsWriteFault, IsUnwritten, IsUnfinished, IsStopped, IsBadRules, IsBadSite, Comes, Holds, Says, IsPartlyBuilt, IsWhollyBuilt, count_line, summary_of}
 use Rattle.hk_app.specs.Promise.{StopsBuild, unbegun, partly, torn_site, past, Leaves, IsSound, IsExcused, failed, unsaid, wanting, of_source, of_site, EndsWell, Promise}
-use Rattle.hk_app.specs.Run.{Ends, EndsWith, EndsAs, EndsBuild, EndsBuilt, WantsBuilt, before, among, after_all, past_fault, EndsChecked, EndsCheck, SaysAs}
+use Rattle.hk_app.specs.Run.{Ends, EndsWith, EndsAs, EndsBuilt, EndsTraced, WantsBuilt, before, among, after_all, past_fault, EndsChecked, EndsCheck, SaysAs}
 use Rattle.hk_app.specs.Site.{Reading, absent, refused, unplanned, planned, reading}
 use Rattle.hk_app.specs.Standing.{Same, Told}
 use Rattle.hk_app.specs.World.{Folder, Folders, Output, folders}
@@ -76,23 +77,30 @@ refused-task c source source' site cache WriteFault text h = absurd h
 refused-task c source source' site cache OutFault text h = absurd h
 refused-task c source source' site cache NoMemory text h = absurd h
 
-module _ (source source' site site' cache : Folder) (plan : PlanView) (is : IfSome source.files (λ m. reading m ≡ planned plan)) where
+module _ (o : BuildOptions) (source source' site site' cache : Folder) (plan : PlanView) (is : IfSome source.files (λ m. reading m ≡ planned plan)) where
   abbrev start : Folders
   start = folders source site cache
 
   abbrev finish : Folders
   finish = folders source' site' cache
 
-  built-comes : (status : Status) (text : Bytes) → EndsBuilt plan site site' status text → Comes Build start finish status text
-  built-comes Done text h = record { cache = refl; run = plans-of start (IsBuilt start finish text) plan is (record { all = h.all; site = h.site; text = h.text }) }
-  built-comes Report text h = record { site = h.1; cache = refl; run = plans-of start (IsReported text) plan is h.0 }
-  built-comes Usage text h = absurd h
-  built-comes BadRules text h = absurd h
-  built-comes BadSite text h = absurd h
-  built-comes ReadFault text h = absurd h
-  built-comes WriteFault text h = record { cause = h.0.rose; cache = refl; run = plans-of start (IsUnwritten start finish) plan is (record { all = h.0.all; site = h.0.site }); text = h.1 }
-  built-comes OutFault text h = absurd h
-  built-comes NoMemory text h = absurd h
+  said-as : (rest text : Bytes) → IsSaid o.trace plan rest text → (f : Option Files) → IfSome f (λ before. rest ≡ summary_of plan before) → IfSome f (λ before. IsSaid o.trace plan (summary_of plan before) text)
+  said-as rest text s None h = tt
+  said-as rest text s (Some m) h = subst (λ r. IsSaid o.trace plan r text) h s
+
+  built-comes : (status : Status) (rest text : Bytes) → EndsBuilt plan site site' status rest → IsSaid o.trace plan rest text → Comes (Build o) start finish status text
+  built-comes Done rest text h s = record { cache = refl; run = plans-of start (IsBuilt o.trace start finish text) plan is (record { all = h.all; site = h.site; text = said-as rest text s site.files h.text }) }
+  built-comes Report rest text h s =
+      record { site = h.1; cache = refl; run = plans-of start (IsReported o.trace text) plan is (record { some = h.0.some; text = subst (λ r. IsSaid o.trace plan r text) h.0.text s }) }
+  built-comes Usage rest text h s = absurd h
+  built-comes BadRules rest text h s = absurd h
+  built-comes BadSite rest text h s = absurd h
+  built-comes ReadFault rest text h s = absurd h
+  built-comes WriteFault rest text h s =
+      let run : IsUnfinished o.trace start finish text plan = record { unwritten = record { all = h.0.all; site = h.0.site }; text = subst (λ r. IsSaid o.trace plan r text) h.1 s } in
+      record { cause = h.0.rose; cache = refl; run = plans-of start (IsUnfinished o.trace start finish text) plan is run }
+  built-comes OutFault rest text h s = absurd h
+  built-comes NoMemory rest text h s = absurd h
 
   built-leaves : WantsBuilt plan site site' → StopsBuild start finish
   built-leaves (before same) = unbegun same refl
@@ -101,14 +109,14 @@ module _ (source source' site site' cache : Folder) (plan : PlanView) (is : IfSo
   built-leaves (past_fault h) = torn_site h.rose (plans-of start (IsUnwritten start finish) plan is (record { all = h.all; site = h.site })) refl
 
   -- what the building of the plan that was read comes to
-  pub built-task : (r : Result Ended NoMemory-data) → Always start finish → EndsBuild plan site site' r → EndsAs Build start finish r
-  built-task (Ok e) always h = record { always = always; comes = built-comes e.status e.text h }
+  pub built-task : (r : Result Ended NoMemory-data) → Always start finish → EndsTraced o.trace plan site site' r → EndsAs (Build o) start finish r
+  built-task (Ok e) always h = record { always = always; comes = built-comes e.status h.0 e.text h.1 h.2 }
   built-task (Err e) always h = record { always = always; leaves = built-leaves h }
 
 module _ (source source' site cache : Folder) (plan : PlanView) (is : IfSome source.files (λ m. reading m ≡ planned plan)) where
   checked-comes : (status : Status) (text : Bytes) → EndsChecked plan status text → Comes Check (folders source site cache) (folders source' site cache) status text
   checked-comes Done text h = record { site = refl; cache = refl; run = plans-of (folders source site cache) (IsShown count_line text) plan is h }
-  checked-comes Report text h = record { site = refl; cache = refl; run = plans-of (folders source site cache) (IsReported text) plan is h }
+  checked-comes Report text h = record { site = refl; cache = refl; run = plans-of (folders source site cache) (IsNamed text) plan is h }
   checked-comes Usage text h = absurd h
   checked-comes BadRules text h = absurd h
   checked-comes BadSite text h = absurd h
@@ -151,7 +159,7 @@ usage-ends words old (Err e) cause h = record { always = always-same old; leaves
 -- memory was wanting before any call of a folder
 leaves-all : (c : Option Command) (old : Folders) → Leaves c old old
 leaves-all None old = refl
-leaves-all (Some Build) old = unbegun refl refl
+leaves-all (Some (Build o)) old = unbegun refl refl
 leaves-all (Some Check) old = record { site = refl; cache = refl }
 
 pub unread-ends : (words : List Bytes) (old : Folders) (r : Result Ended NoMemory-data) (e : NoMemory-data) → r ≡ Err e → EndsWith words old old r
@@ -160,15 +168,15 @@ unread-ends words old r e is = subst (EndsWith words old old) (sym is) (record {
 -- ---- what want of memory leaves once all but the text is done
 
 task-leaves : (c : Command) (old new : Folders) (status : Status) (text : Bytes) → Comes c old new status text → Leaves (Some c) old new
-task-leaves Build old new Done text h = past (plans-map old (IsBuilt old new text) (IsWhollyBuilt old new) (λ plan b. record { all = b.all; site = b.site }) h.run) h.cache
-task-leaves Build old new Report text h = unbegun h.site h.cache
-task-leaves Build old new Usage text h = absurd h
-task-leaves Build old new BadRules text h = unbegun h.site h.cache
-task-leaves Build old new BadSite text h = unbegun h.site h.cache
-task-leaves Build old new ReadFault text h = unbegun h.site h.cache
-task-leaves Build old new WriteFault text h = torn_site h.cause h.run h.cache
-task-leaves Build old new OutFault text h = absurd h
-task-leaves Build old new NoMemory text h = absurd h
+task-leaves (Build o) old new Done text h = past (plans-map old (IsBuilt o.trace old new text) (IsWhollyBuilt old new) (λ plan b. record { all = b.all; site = b.site }) h.run) h.cache
+task-leaves (Build o) old new Report text h = unbegun h.site h.cache
+task-leaves (Build o) old new Usage text h = absurd h
+task-leaves (Build o) old new BadRules text h = unbegun h.site h.cache
+task-leaves (Build o) old new BadSite text h = unbegun h.site h.cache
+task-leaves (Build o) old new ReadFault text h = unbegun h.site h.cache
+task-leaves (Build o) old new WriteFault text h = torn_site h.cause (plans-map old (IsUnfinished o.trace old new text) (IsUnwritten old new) (λ plan u. u.unwritten) h.run) h.cache
+task-leaves (Build o) old new OutFault text h = absurd h
+task-leaves (Build o) old new NoMemory text h = absurd h
 task-leaves Check old new Done text h = record { site = h.site; cache = h.cache }
 task-leaves Check old new Report text h = record { site = h.site; cache = h.cache }
 task-leaves Check old new Usage text h = absurd h
@@ -192,24 +200,24 @@ leaves words old new NoMemory text h = absurd h.comes
 
 -- ---- completeness follows from the causes
 
-stopped-run : (c : Command) (old new : Folders) (text : Bytes) → IsStopped c old new text → Plans old (IsReported text)
-stopped-run Build old new text h = h.run
-stopped-run Check old new text h = h.run
+stopped-run : (c : Command) (old new : Folders) (text : Bytes) → IsStopped c old new text → Plans old SomeStop
+stopped-run (Build o) old new text h = plans-map old (IsReported o.trace text) SomeStop (λ plan r. r.some) h.run
+stopped-run Check old new text h = plans-map old (IsNamed text) SomeStop (λ plan r. r.some) h.run
 
 unwritten-cause : (c : Command) (old new : Folders) (text : Bytes) → IsWriteFault c old new text → Rose old.site.faults new.site.faults
-unwritten-cause Build old new text h = h.cause
+unwritten-cause (Build o) old new text h = h.cause
 unwritten-cause Check old new text h = absurd h
 
 -- a plan that is there and whose items are all done isn't reported on
-not-reported : (old : Folders) (text : Bytes) → IsSound old → Plans old (IsReported text) → ⊥
-not-reported old text s h =
-    let p = at-some (λ m. (plan : PlanView) × (reading m ≡ planned plan) × IsReported text plan) s.told h in
+not-reported : (old : Folders) → IsSound old → Plans old SomeStop → ⊥
+not-reported old s h =
+    let p = at-some (λ m. (plan : PlanView) × (reading m ≡ planned plan) × SomeStop plan) s.told h in
     let same : p.0 ≡ s.plan = one-plan p.0 s.plan (sym p.1 ∙ s.planned) in
-    let twice : true ≡ false = sym (subst AllEnd (sym same) s.all) ∙ p.2.some in cc
+    let twice : true ≡ false = sym (subst AllEnd (sym same) s.all) ∙ p.2 in cc
 
 ends-well : (words : List Bytes) (old new : Folders) (out out' : Output) (status : Status) (text : Bytes) → Holds words old new status text → (c : Command) → command words ≡ Some c → IsSound old → EndsWell old new out out' status
 ends-well words old new out out' Done text h c asked s = inl refl
-ends-well words old new out out' Report text h c asked s = absurd (not-reported old text s (stopped-run h.task old new text h.comes))
+ends-well words old new out out' Report text h c asked s = absurd (not-reported old s (stopped-run h.task old new text h.comes))
 ends-well words old new out out' Usage text h c asked s = absurd (cc (h.cause, asked))
 ends-well words old new out out' BadRules text h c asked s = absurd (subst (IsBadRules text) s.planned (at-some (λ m. IsBadRules text (reading m)) s.told h.comes.cause))
 ends-well words old new out out' BadSite text h c asked s = absurd (subst (IsBadSite text) s.planned (at-some (λ m. IsBadSite text (reading m)) s.told h.comes.cause))

@@ -17,7 +17,7 @@ use Rattle.hk_app.specs.declared.ended.Ended.{Ended}
 use Rattle.hk_app.specs.declared.status.Status.TheVariants.{Ok as Done}
 use Rattle.hk_app.specs.Compiled.{AreResults, IsWhole, CompilesTo}
 use Rattle.hk_app.specs.Pages.{report, is_empty}
-use Rattle.hk_app.specs.Promise.{AllEnd, IsReported, count_line}
+use Rattle.hk_app.specs.Promise.{AllEnd, IsNamed, count_line}
 use Rattle.hk_app.specs.Run.{EndsChecked, EndsCheck}
 
 -- the layout of a plan, in its two forms
@@ -34,12 +34,12 @@ module _ (plan : PlanView) (r : ResultsView) (h : AreResults plan r) (lay : Shap
   judged-whole e = record { all = sym (ap is_empty the-report) ∙ e; pages = h.pages }
 
   -- something is
-  pub judged-stopped : is_empty left ≡ false → (ends : List Ending) → ends ≡ r.outcomes → (text : Bytes) → text ≡ report_text (lookups plan) ends left → IsReported text plan
+  pub judged-stopped : is_empty left ≡ false → (ends : List Ending) → ends ≡ r.outcomes → (text : Bytes) → text ≡ report_text (lookups plan) ends left → IsNamed text plan
   judged-stopped e ends ends-is text is = record { some = sym (ap is_empty the-report) ∙ e; text = is ∙ (λ i. report_text (lookups plan) ((ends-is ∙ h.endings) i) (the-report i)) }
 
 -- a plan under another name
-pub stopped-is : (plan p : PlanView) (x : Compiled) (text : Bytes) → p ≡ plan → x ≡ Stopped text → CompilesTo p x → IsReported text plan
-stopped-is plan p x text e is h = subst (IsReported text) e (subst (CompilesTo p) is h)
+pub stopped-is : (plan p : PlanView) (x : Compiled) (text : Bytes) → p ≡ plan → x ≡ Stopped text → CompilesTo p x → IsNamed text plan
+stopped-is plan p x text e is h = subst (IsNamed text) e (subst (CompilesTo p) is h)
 
 -- all items of a plan are done, and their number was told
 pub checked-run : (plan p q : PlanView) (x : Compiled) (results : ResultsView) (r : Result Ended NoMemory-data) → p ≡ plan → q ≡ p → x ≡ Whole results → CompilesTo p x → IfOk r (λ e. (e.status ≡ Done) × (e.text ≡ count_line q)) → IfOk r (EndsCheck plan)

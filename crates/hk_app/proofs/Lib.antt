@@ -5,3 +5,4 @@ pub mod Judging
 pub mod PageMaps
 pub mod PageWrites
 pub mod SourceReads
+mod Tracing

@@ -7,4 +7,5 @@ pub mod Run
 pub mod Site
 pub mod Standing
 pub mod Status
+pub mod Traced
 pub mod World

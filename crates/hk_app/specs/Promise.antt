@@ -1,18 +1,22 @@
 -- What each status of a run promises.
-use Rattle.std.specs.Prelude.{◌≡◌, ◌⊎◌, ℕ, ◌≤◌, true, false, List, ◌++◌, Option, Some, None, IfSome, length, take}
+use Rattle.std.specs.Prelude.{◌≡◌, ◌⊎◌, ℕ, ◌≤◌, Bool, true, false, List, [], ◌++◌, Option, Some, None, IfSome, length, take}
 use Rattle.hk_base.specs.Bytes.{Bytes, Files}
+use Rattle.hk_fix.specs.declared.event.Event.{Event}
+use Rattle.hk_fix.specs.Fix.{IsComplete}
+use Rattle.hk_machine.specs.Machine.{plan_run, plan_shape}
 use Rattle.hk_outside.specs.Causes.{Rose}
 use Rattle.hk_rules.specs.PlanView.{PlanView}
 use Rattle.hk_rules.specs.Plan.{lookups}
 use Rattle.hk_texts.specs.Printed.{absent_line, rules_line, plan_line, read_fault_line, write_fault_line, summary, items_line}
 use Rattle.hk_texts.specs.ReportText.{report_text}
+use Rattle.hk_texts.specs.TraceText.{trace_text}
 use Rattle.hk_words.specs.Usage.{usage}
 use Rattle.hk_words.specs.declared.commands.Command.{Command}
 use Rattle.hk_words.specs.declared.commands.Command.TheVariants.{Build, Check}
 use Rattle.hk_app.specs.declared.status.Status.{Status}
 use Rattle.hk_app.specs.declared.status.Status.TheVariants.{Ok as Done, Report, Usage, BadRules, BadSite, ReadFault, WriteFault, OutFault, NoMemory}
 use Rattle.hk_words.specs.Words.{command}
-use Rattle.hk_app.specs.Pages.{endings, report, is_empty, site_of}
+use Rattle.hk_app.specs.Pages.{no_seeds, endings, report, is_empty, site_of}
 use Rattle.hk_app.specs.Site.{Reading, absent, refused, unplanned, planned, reading}
 use Rattle.hk_app.specs.Standing.{Same, Told, HoldsOnly, IsPartly, IsTorn, written, removed}
 use Rattle.hk_app.specs.World.{Folder, Output, Folders}
@@ -54,16 +58,29 @@ report_lines plan = report_text (lookups plan) (endings plan) (report plan)
 abbrev pub count_line : PlanView → Bytes
 count_line plan = items_line (length plan.items)
 
+-- ---- what a build says
+
+-- the lines of a history, where they are asked for
+abbrev pub traced : Bool → PlanView → List Event → Bytes
+traced true plan history = trace_text (lookups plan) history
+traced false plan history = []
+
+-- the lines of a complete history, where they are asked for, and then the rest
+pub record IsSaid (trace : Bool) (plan : PlanView) (rest said : Bytes) : Type 0 where
+  pub history : List Event
+  pub complete : IsComplete (plan_shape plan) (plan_run plan) (no_seeds plan) history
+  pub text : said ≡ traced trace plan history ++ rest
+
 -- ---- 0: the command was done
 
-pub record IsBuilt (old new : Folders) (said : Bytes) (plan : PlanView) : Type 0 where
+pub record IsBuilt (trace : Bool) (old new : Folders) (said : Bytes) (plan : PlanView) : Type 0 where
   pub all : AllEnd plan
   pub site : HoldsOnly (site_of plan) old.site new.site
-  pub text : IfSome old.site.files (λ before. said ≡ summary_of plan before)
+  pub text : IfSome old.site.files (λ before. IsSaid trace plan (summary_of plan before) said)
 
-pub record Builds (old new : Folders) (said : Bytes) : Type 0 where
+pub record Builds (trace : Bool) (old new : Folders) (said : Bytes) : Type 0 where
   pub cache : Same old.cache new.cache
-  pub run : Plans old (IsBuilt old new said)
+  pub run : Plans old (IsBuilt trace old new said)
 
 pub record IsShown (shown : PlanView → Bytes) (said : Bytes) (plan : PlanView) : Type 0 where
   pub all : AllEnd plan
@@ -76,23 +93,29 @@ pub record Shows (shown : PlanView → Bytes) (old new : Folders) (said : Bytes)
   pub run : Plans old (IsShown shown said)
 
 abbrev pub IsDone : Command → Folders → Folders → Bytes → Type 0
-IsDone Build = Builds
+IsDone (Build o) = Builds o.trace
 IsDone Check = Shows count_line
 
 -- ---- 1: some item failed or waits
 
-pub record IsReported (said : Bytes) (plan : PlanView) : Type 0 where
+-- a build says so
+pub record IsReported (trace : Bool) (said : Bytes) (plan : PlanView) : Type 0 where
+  pub some : SomeStop plan
+  pub text : IsSaid trace plan (report_lines plan) said
+
+-- a check does
+pub record IsNamed (said : Bytes) (plan : PlanView) : Type 0 where
   pub some : SomeStop plan
   pub text : said ≡ report_lines plan
 
-pub record Reports (old new : Folders) (said : Bytes) : Type 0 where
+pub record Reports (P : Bytes → PlanView → Type 0) (old new : Folders) (said : Bytes) : Type 0 where
   pub site : Same old.site new.site
   pub cache : Same old.cache new.cache
-  pub run : Plans old (IsReported said)
+  pub run : Plans old (P said)
 
 abbrev pub IsStopped : Command → Folders → Folders → Bytes → Type 0
-IsStopped Build = Reports
-IsStopped Check = Reports
+IsStopped (Build o) = Reports (IsReported o.trace)
+IsStopped Check = Reports IsNamed
 
 -- ---- 3, 4 and 5: the source has no plan, or can't be read
 
@@ -128,14 +151,17 @@ pub record IsUnwritten (old new : Folders) (plan : PlanView) : Type 0 where
   pub all : AllEnd plan
   pub site : IsTorn (site_of plan) old.site new.site
 
-pub record FailsWriting (old new : Folders) (said : Bytes) : Type 0 where
+pub record IsUnfinished (trace : Bool) (old new : Folders) (said : Bytes) (plan : PlanView) : Type 0 where
+  pub unwritten : IsUnwritten old new plan
+  pub text : IsSaid trace plan write_fault_line said
+
+pub record FailsWriting (trace : Bool) (old new : Folders) (said : Bytes) : Type 0 where
   pub cause : Rose old.site.faults new.site.faults
   pub cache : Same old.cache new.cache
-  pub run : Plans old (IsUnwritten old new)
-  pub text : said ≡ write_fault_line
+  pub run : Plans old (IsUnfinished trace old new said)
 
 abbrev pub IsWriteFault : Command → Folders → Folders → Bytes → Type 0
-IsWriteFault Build = FailsWriting
+IsWriteFault (Build o) = FailsWriting o.trace
 IsWriteFault Check = λ old new said. ⊥
 
 -- ---- what holds of a run that came to a status and has this text to write
@@ -193,7 +219,7 @@ pub record StopsReader (old new : Folders) : Type 0 where
 -- what want of memory leaves
 abbrev pub Leaves : Option Command → Folders → Folders → Type 0
 Leaves None old new = Untouched old new
-Leaves (Some Build) old new = StopsBuild old new
+Leaves (Some (Build o)) old new = StopsBuild old new
 Leaves (Some Check) old new = StopsReader old new
 
 -- ---- what is written

@@ -1,5 +1,5 @@
 -- What the parts of a run come to.
-use Rattle.std.specs.Prelude.{◌≡◌, List, Some, IfSome, Result, Ok, Err}
+use Rattle.std.specs.Prelude.{◌≡◌, Bool, List, Some, IfSome, Result, Ok, Err}
 use Rattle.hk_base.specs.declared.refusal.NoMemory.{NoMemory as NoMemory-data}
 use Rattle.hk_base.specs.Bytes.{Bytes}
 use Rattle.hk_outside.specs.Causes.{Rose}
@@ -11,7 +11,7 @@ use Rattle.hk_app.specs.declared.status.Status.{Status}
 use Rattle.hk_app.specs.declared.status.Status.TheVariants.{Ok as Done, Report, WriteFault, OutFault, NoMemory}
 use Rattle.hk_words.specs.Words.{command}
 use Rattle.hk_app.specs.Pages.{site_of}
-use Rattle.hk_app.specs.Promise.{Always, Comes, Holds, Leaves, AllEnd, IsReported, IsShown, summary_of, count_line, Written, Cut}
+use Rattle.hk_app.specs.Promise.{Always, Comes, Holds, Leaves, AllEnd, IsNamed, IsSaid, IsShown, summary_of, count_line, Written, Cut}
 use Rattle.hk_app.specs.Standing.{Same, HoldsOnly, IsPartly, IsTorn}
 use Rattle.hk_app.specs.World.{Folder, Output, Folders}
 
@@ -58,7 +58,7 @@ pub record IsTornBuilding (plan : PlanView) (old new : Folder) : Type 0 where
 -- some item isn't done, or all pages were written, or a call failed
 abbrev pub EndsBuilt : PlanView → Folder → Folder → Status → Bytes → Type 0
 EndsBuilt plan old new Done text = IsBuilding plan old new text
-EndsBuilt plan old new Report text = IsReported text plan × Same old new
+EndsBuilt plan old new Report text = IsNamed text plan × Same old new
 EndsBuilt plan old new WriteFault text = IsTornBuilding plan old new × (text ≡ write_fault_line)
 EndsBuilt plan old new status text = ⊥
 
@@ -73,11 +73,16 @@ abbrev pub EndsBuild : PlanView → Folder → Folder → Result Ended NoMemory-
 EndsBuild plan old new (Ok e) = EndsBuilt plan old new e.status e.text
 EndsBuild plan old new (Err e) = WantsBuilt plan old new
 
+-- the same with the lines of a history in front
+abbrev pub EndsTraced : Bool → PlanView → Folder → Folder → Result Ended NoMemory-data → Type 0
+EndsTraced trace plan old new (Ok e) = (rest : Bytes) × EndsBuilt plan old new e.status rest × IsSaid trace plan rest e.text
+EndsTraced trace plan old new (Err e) = WantsBuilt plan old new
+
 -- ---- the checking of a plan
 
 abbrev pub EndsChecked : PlanView → Status → Bytes → Type 0
 EndsChecked plan Done text = IsShown count_line text plan
-EndsChecked plan Report text = IsReported text plan
+EndsChecked plan Report text = IsNamed text plan
 EndsChecked plan status text = ⊥
 
 abbrev pub EndsCheck : PlanView → Ended → Type 0

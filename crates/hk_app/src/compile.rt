@@ -28,7 +28,8 @@ pub fn compile(alloc: Global, plan: &Shared<Plan>) -> Result<Compiled, NoMemory>
     judge(alloc, plan.get(), results)
 }
 
-fn run_compilers(alloc: Global, plan: &Shared<Plan>) -> Result<Results, NoMemory>
+/// Runs all compilers of a plan on the caller's thread, from nothing that is kept.
+pub fn run_compilers(alloc: Global, plan: &Shared<Plan>) -> Result<Results, NoMemory>
     ensures { IfOk result (AreResults plan.now) }
 {
     let layout = plan.get().layout();
@@ -38,7 +39,8 @@ fn run_compilers(alloc: Global, plan: &Shared<Plan>) -> Result<Results, NoMemory
     run_one(alloc, layout.try_clone()?, kept, &maker)
 }
 
-fn judge(alloc: Global, plan: &Plan, results: Results) -> Result<Compiled, NoMemory>
+/// What the results of all compilers come to.
+pub fn judge(alloc: Global, plan: &Plan, results: Results) -> Result<Compiled, NoMemory>
     requires { AreResults plan.now results }
     ensures { IfOk result (CompilesTo plan.now) }
 {

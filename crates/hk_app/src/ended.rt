@@ -1,5 +1,5 @@
 // What a run came to before its text is written.
-ghost use Rattle.std.specs.Prelude.{◌≡◌, IfOk};
+ghost use Rattle.std.specs.Prelude.{◌≡◌, ◌++◌, IfOk};
 
 use crate::Status;
 use hk_base::{NoMemory, Text};
@@ -19,6 +19,18 @@ impl Ended {
         Ok(Ended {
             status,
             text: Text::from_slice(alloc, text)?,
+        })
+    }
+
+    /// The same with a text in front.
+    pub fn after(self, front: Text) -> Result<Ended, NoMemory>
+        ensures { IfOk result (λ e. (e.status ≡ self.status) × (e.text ≡ front ++ self.text)) }
+    {
+        let mut text = front.into_vec();
+        text.extend_from_slice(self.text.as_slice())?;
+        Ok(Ended {
+            status: self.status,
+            text: Text::from_vec(text),
         })
     }
 }

@@ -8,6 +8,7 @@ mod pages;
 mod reading;
 mod run;
 mod status;
+mod trace;
 
 pub use run::site_main_one;
 pub use status::Status;

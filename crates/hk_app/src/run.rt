@@ -1,24 +1,25 @@
 // One run, from the words to the status.
 ghost use Rattle.std.specs.Prelude.{◌≡◌, ◌≤◌, ◌≢◌, IfOk, length, map, string_bytes};
-ghost use Rattle.hk_app.specs.Compiled.{IsWhole};
+ghost use Rattle.hk_app.specs.Compiled.{AreResults, IsWhole};
 ghost use Rattle.hk_texts.specs.Printed as printed;
 ghost use Rattle.hk_app.specs.Promise.{Promise, count_line};
-ghost use Rattle.hk_app.specs.Run.{SaysAs, EndsWith, EndsAs, EndsBuild, EndsCheck};
+ghost use Rattle.hk_app.specs.Run.{SaysAs, EndsWith, EndsAs, EndsBuild, EndsTraced, EndsCheck};
 ghost use Rattle.hk_app.specs.Standing.{Told};
 ghost use Rattle.hk_app.specs.World.{Folder, folder, output, folders};
 ghost use Rattle.hk_words.specs.declared.commands.Command.TheVariants as the;
 
 use crate::Status;
-use crate::compile::{Compiled, compile};
+use crate::compile::{Compiled, compile, judge, run_compilers};
 use crate::ended::Ended;
 use crate::pages::pages;
 use crate::reading::{Gathered, gather};
+use crate::trace::trace_of;
 use hk_base::{NoMemory, Shared};
 use hk_fix::Results;
 use hk_outside::{Sink, Tree, TreeFault};
 use hk_rules::Plan;
 use hk_texts::{items_line, summary};
-use hk_words::{Command, command, usage_text};
+use hk_words::{BuildOptions, Command, command, usage_text};
 use hk_writer::{Counts, write_site};
 use std::alloc::Global;
 
@@ -83,20 +84,25 @@ fn perform<S: Tree, O: Tree>(
         result }
 {
     match task {
-        Command::Build => build(alloc, source, site),
+        Command::Build(options) => build(alloc, source, site, options),
         Command::Check => check(alloc, source),
     }
 }
 
-fn build<S: Tree, O: Tree>(alloc: Global, source: &mut S, site: &mut O) -> Result<Ended, NoMemory>
-    ensures { (cache : Folder) → EndsAs the.Build
+fn build<S: Tree, O: Tree>(
+    alloc: Global,
+    source: &mut S,
+    site: &mut O,
+    options: BuildOptions,
+) -> Result<Ended, NoMemory>
+    ensures { (cache : Folder) → EndsAs (the.Build options)
         (folders (folder (S.files source.old) (S.faults source.old)) (folder (O.files site.old) (O.faults site.old)) cache)
         (folders (folder (S.files source.new) (S.faults source.new)) (folder (O.files site.new) (O.faults site.new)) cache)
         result }
 {
     match gather(alloc, source)? {
         Gathered::Refused(ended) => Ok(ended),
-        Gathered::Planned(plan) => build_plan(alloc, site, plan),
+        Gathered::Planned(plan) => build_plan(alloc, site, plan, options.trace),
     }
 }
 
@@ -113,18 +119,57 @@ fn check<S: Tree>(alloc: Global, source: &mut S) -> Result<Ended, NoMemory>
 }
 
 /// Runs the compilers of a plan, and writes the pages, or else gives the report.
-fn build_plan<O: Tree>(alloc: Global, site: &mut O, plan: Plan) -> Result<Ended, NoMemory>
-    ensures ends { EndsBuild plan (folder (O.files site.old) (O.faults site.old)) (folder (O.files site.new) (O.faults site.new)) result }
+fn build_plan<O: Tree>(
+    alloc: Global,
+    site: &mut O,
+    plan: Plan,
+    trace: bool,
+) -> Result<Ended, NoMemory>
+    ensures ends { EndsTraced trace plan (folder (O.files site.old) (O.faults site.old)) (folder (O.files site.new) (O.faults site.new)) result }
     ensures told { Told (folder (O.files site.old) (O.faults site.old)) (folder (O.files site.new) (O.faults site.new)) }
     ensures later { O.faults site.old ≤ O.faults site.new }
 {
     let plan = Shared::new(alloc, plan)?;
-    match compile(alloc, &plan)? {
+    let results = run_compilers(alloc, &plan)?;
+    end_build(alloc, site, plan.get(), results, trace)
+}
+
+/// What a build does with the results of its compilers. Where the trace is asked for, it stands in front of the text.
+fn end_build<O: Tree>(
+    alloc: Global,
+    site: &mut O,
+    plan: &Plan,
+    results: Results,
+    trace: bool,
+) -> Result<Ended, NoMemory>
+    requires { AreResults plan.now results }
+    ensures ends { EndsTraced trace plan.now (folder (O.files site.old) (O.faults site.old)) (folder (O.files site.new) (O.faults site.new)) result }
+    ensures told { Told (folder (O.files site.old) (O.faults site.old)) (folder (O.files site.new) (O.faults site.new)) }
+    ensures later { O.faults site.old ≤ O.faults site.new }
+{
+    let front = trace_of(alloc, plan, &results.history, trace)?;
+    let ended = settle(alloc, site, plan, results)?;
+    ended.after(front)
+}
+
+/// Writes the pages of a plan, or else gives the report.
+fn settle<O: Tree>(
+    alloc: Global,
+    site: &mut O,
+    plan: &Plan,
+    results: Results,
+) -> Result<Ended, NoMemory>
+    requires { AreResults plan.now results }
+    ensures ends { EndsBuild plan.now (folder (O.files site.old) (O.faults site.old)) (folder (O.files site.new) (O.faults site.new)) result }
+    ensures told { Told (folder (O.files site.old) (O.faults site.old)) (folder (O.files site.new) (O.faults site.new)) }
+    ensures later { O.faults site.old ≤ O.faults site.new }
+{
+    match judge(alloc, plan, results)? {
         Compiled::Stopped(text) => Ok(Ended {
             status: Status::Report,
             text,
         }),
-        Compiled::Whole(results) => write(alloc, site, plan.get(), &results),
+        Compiled::Whole(results) => write(alloc, site, plan, &results),
     }
 }
 

@@ -1,11 +1,10 @@
 -- The numbers in a report are those of the layout's items and pairs.
-use Rattle.std.proofs.Common.{◌≡◌, refl, sym, ap, ◌∙◌, subst, arith, ℕ, zero, suc, ◌<◌, Bool, true, false, cond, List, [], ◌∷◌, ◌++◌, length, map, filter, ◌&&◌, not, get_or, Option, Some, None, nat_eq, nat_lt, ltb-true, lt-ltb, All}
+use Rattle.std.proofs.Common.{◌≡◌, refl, sym, ◌∙◌, subst, arith, ℕ, zero, suc, ◌<◌, Bool, true, false, cond, List, [], ◌∷◌, length, map, filter, ◌&&◌, not, get_or, Option, Some, nat_eq, nat_lt, ltb-true, lt-ltb, All}
 use Rattle.std.specs.List.{AllByRecursion, slice_get}
 use Rattle.std.proofs.lemmas.List.{length-map}
 use Rattle.std.proofs.lemmas.List.Elements.{All-append, All-filter, All-map, All-weaker, All-from_recursion}
 use Rattle.std.proofs.lemmas.Option.{slice_get-get_or}
 use Rattle.std.proofs.lemmas.Simd.{map-map}
-use Rattle.hk_chain.specs.Kept.{at_place}
 use Rattle.hk_chain.specs.Layout.{Shape, IsShape, IsLayout, pairs}
 use Rattle.hk_fix.specs.Fix.{Ending, finished, faulted, waiting}
 use Rattle.hk_fix.specs.Outcomes.{outcome_view}

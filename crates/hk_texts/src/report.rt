@@ -11,6 +11,7 @@ ghost use Rattle.hk_rules.specs.Plan.{lookups};
 ghost use Rattle.hk_texts.specs.ReportText as spec;
 ghost use Rattle.hk_texts.specs.ReportText.{IsReportWithin, IsBlockedWithin};
 
+use crate::pieces::{append, append_two, write_item};
 use hk_base::{Identifier, NoMemory, Text};
 use hk_chain::{Fault, ItemNo, PairNo};
 use hk_fix::{Outcome, Report};
@@ -242,14 +243,6 @@ fn write_counts(alloc: Global, out: &mut Vec<u8>, report: &Report) -> Result<(),
     append(out, line.as_bytes())
 }
 
-fn write_item(alloc: Global, out: &mut Vec<u8>, plan: &Plan, item: ItemNo) -> Result<(), NoMemory>
-    requires { item < length plan.now.items }
-    ensures { OnOk result (out.new.items ≡ out.old.items ++ spec.item_text (lookups plan.now) item) }
-{
-    let printed = plan.id(item).print(alloc)?;
-    append(out, printed.as_slice())
-}
-
 fn write_with_id(
     alloc: Global,
     out: &mut Vec<u8>,
@@ -272,18 +265,4 @@ fn write_with_number(
 {
     let digits = format!(in alloc; "{number}")?;
     append_two(out, front, digits.as_bytes())
-}
-
-fn append_two(out: &mut Vec<u8>, front: &[u8], back: &[u8]) -> Result<(), NoMemory>
-    ensures { OnOk result (out.new.items ≡ out.old.items ++ (front.now ++ back.now)) }
-{
-    append(out, front)?;
-    append(out, back)
-}
-
-fn append(out: &mut Vec<u8>, bytes: &[u8]) -> Result<(), NoMemory>
-    ensures { OnOk result (out.new.items ≡ out.old.items ++ bytes.now) }
-{
-    out.extend_from_slice(bytes)?;
-    Ok(())
 }

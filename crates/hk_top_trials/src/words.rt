@@ -1,6 +1,6 @@
 // Words and the command that they are.
 use hk_base::NoMemory;
-use hk_words::{Command, command, usage_text};
+use hk_words::{BuildOptions, Command, command, usage_text};
 use std::alloc::Global;
 use std::test::Fail;
 
@@ -13,10 +13,15 @@ fn read(alloc: Global, line: &str) -> Result<Option<Command>, NoMemory> {
     command(alloc, &words)
 }
 
+fn build(trace: bool) -> Command {
+    Command::Build(BuildOptions { trace })
+}
+
 #[test]
 fn words_are_a_command_or_none(rt: HostRuntime) -> Result<(), Fail> {
     for (line, wanted) in [
-        ("build", Some(Command::Build)),
+        ("build", Some(build(false))),
+        ("build --trace", Some(build(true))),
         ("check", Some(Command::Check)),
         ("", None),
         ("make", None),
@@ -33,6 +38,9 @@ fn words_are_a_command_or_none(rt: HostRuntime) -> Result<(), Fail> {
         ("build --workers 0", None),
         ("build --workers 65", None),
         ("build --trace --trace", None),
+        ("build --trace=x", None),
+        ("build --workers 2", None),
+        ("check --trace", None),
         ("check x", None),
         ("check -- x", None),
     ] {
@@ -43,6 +51,6 @@ fn words_are_a_command_or_none(rt: HostRuntime) -> Result<(), Fail> {
 
 #[test]
 fn usage_has_a_line_for_each_command(rt: HostRuntime) {
-    let text: &[u8] = b"usage: hakyll_cli build\n       hakyll_cli check\n";
+    let text: &[u8] = b"usage: hakyll_cli build [--trace]\n       hakyll_cli check\n";
     assert_eq!(rt; usage_text(), text);
 }

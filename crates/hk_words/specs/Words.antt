@@ -10,6 +10,10 @@ use Rattle.hk_words.specs.Given.{given}
 abbrev pub is_nothing : Arguments → Bool
 is_nothing a = is_none a.workers && not a.trace && is_none a.operands
 
+-- a build, which takes `--trace`
+abbrev pub build_of : Arguments → Option Command
+build_of a = if is_none a.workers && is_none a.operands then Some (Build (record { trace = a.trace })) else None
+
 -- a command that takes no option and no operand
 abbrev pub alone : Command → Arguments → Option Command
 alone c a = if is_nothing a then Some c else None
@@ -17,7 +21,7 @@ alone c a = if is_nothing a then Some c else None
 -- the command of a name, if it takes the arguments
 abbrev pub named : Bytes → Arguments → Option Command
 named name a =
-    if bytes_eq name (codes "build") then alone Build a
+    if bytes_eq name (codes "build") then build_of a
     else (if bytes_eq name (codes "check") then alone Check a
     else None)
 

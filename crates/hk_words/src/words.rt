@@ -5,7 +5,7 @@ ghost use Rattle.hk_words.specs.Given.{given};
 ghost use Rattle.hk_words.specs.Words as spec;
 
 use crate::arguments::Arguments;
-use crate::commands::Command;
+use crate::commands::{BuildOptions, Command};
 use crate::leaf::read_matched;
 use hk_base::NoMemory;
 use std::alloc::Global;
@@ -13,9 +13,8 @@ use std::alloc::Global;
 /// The command that the words are, or `None` exactly where they are none.
 ///
 /// The first word is the command's name, `build` or `check`. After it stand its options, in any order and each at most
-/// once, and its operands: `--workers` with the next word or what follows `=`, a number from 1 to 64; `--trace`; two
-/// numbers. No command takes one of these yet. Any other word, as `--`, `-h`, `--help` or a repeated option, makes the
-/// words no command.
+/// once, and its operands. `build` takes `--trace`, and `check` takes nothing. Any other word, as `--`, `-h`, `--help` or a
+/// repeated option, makes the words no command.
 ///
 /// `NoMemory` only for want of memory. Linear in the bytes of the words.
 pub fn command(alloc: Global, words: &[String]) -> Result<Option<Command>, NoMemory>
@@ -51,10 +50,22 @@ fn named(name: &str, arguments: &Arguments) -> Option<Command>
     ensures { result ≡ spec.named name.now arguments.now }
 {
     match name {
-        "build" => alone(Command::Build, arguments),
+        "build" => build(arguments),
         "check" => alone(Command::Check, arguments),
         _ => None,
     }
+}
+
+/// A build, which takes `--trace`.
+fn build(arguments: &Arguments) -> Option<Command>
+    ensures { result ≡ spec.build_of arguments.now }
+{
+    if arguments.workers.is_some() || arguments.operands.is_some() {
+        return None;
+    }
+    Some(Command::Build(BuildOptions {
+        trace: arguments.trace,
+    }))
 }
 
 /// A command that takes no option and no operand.

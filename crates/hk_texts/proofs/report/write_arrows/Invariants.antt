@@ -1,4 +1,4 @@
-use Rattle.std.proofs.Common.{◌≡◌, ◌++◌, drop, map, codes}
+use Rattle.std.proofs.Common.{◌≡◌, ◌++◌, drop, codes}
 use Rattle.std.specs.List.{flat_map}
 use Rattle.hk_rules.specs.Plan.{lookups}
 use Rattle.hk_texts.specs.ReportText.{item_text}
