@@ -1,1 +1,1 @@
-pub mod SampleSteps
+-- The proofs of the trials.

@@ -1,4 +1,1 @@
-pub mod Mutual
-pub mod MutualLaws
-pub mod Sample
-pub mod SampleLaws
+-- No definitions of its own.

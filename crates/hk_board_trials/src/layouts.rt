@@ -1,62 +1,68 @@
-// Each call that takes memory succeeds once.
-ghost use Rattle.std.specs.Prelude.{◌≡◌};
-
-use hk_base::Text;
-use hk_chain::{Facts, ItemNo, Kept, Kind, Layout, Mark, Page, PageRef, PairNo};
+// Layouts, what is kept, facts and pages.
+use crate::texts;
+use hk_base::NoMemory;
+use hk_chain::{Facts, ItemNo, Kept, Layout, Mark, PairNo};
+use std::alloc::Global;
 use std::test::Fail;
 
-#[test]
-fn layouts(rt: HostRuntime) -> Result<(), Fail> {
-    let layout = Layout::of_counts(rt.alloc(), &[1, 0, 2])?;
-    assert_eq!(rt; layout.items(), 3);
-    assert_eq!(rt; layout.pairs(), 6);
-    for (pair, item) in [(0, 0), (1, 0), (2, 1), (3, 2), (5, 2)] {
-        if pair < layout.pairs() {
-            assert_eq!(rt; layout.item_of(PairNo(pair)).0, item, "pair {pair}");
-        }
-    }
-    for (item, pair) in [(0, 1), (1, 2), (2, 5)] {
-        if item < layout.items() {
-            assert_eq!(rt; layout.final_of(ItemNo(item)).0, pair, "item {item}");
-        }
-    }
-    let kept = Kept::none(rt.alloc(), &layout)?;
-    assert_eq!(rt; kept.pages.len(), 6);
-    assert_eq!(rt; kept.facts.len(), 3);
-    let again = kept.copy(rt.alloc())?;
-    assert_eq!(rt; again.pages.len(), 6);
-    Ok(())
+fn counted(alloc: Global) -> Result<Layout, NoMemory> {
+    Layout::of_counts(alloc, &[1, 0, 2])
 }
 
-#[test]
-fn facts(rt: HostRuntime) -> Result<(), Fail> {
-    let alloc = rt.alloc();
-    let mut group = Vec::new(alloc);
-    group.push(PairNo(1))?;
-    let mut trace = Vec::new(alloc);
-    trace.push(Mark::Asked(group))?;
-    trace.push(Mark::Saved(PairNo(0)))?;
+/// The item of each pair.
+fn pair_items(alloc: Global, layout: &Layout) -> Result<Vec<ItemNo>, NoMemory> {
+    let mut items = Vec::new(alloc);
+    for pair in 0..layout.pairs() {
+        items.push(layout.item_of(PairNo(pair)))?;
+    }
+    Ok(items)
+}
+
+/// The last pair of each item.
+fn final_pairs(alloc: Global, layout: &Layout) -> Result<Vec<PairNo>, NoMemory> {
+    let mut pairs = Vec::new(alloc);
+    for item in 0..layout.items() {
+        pairs.push(layout.final_of(ItemNo(item)))?;
+    }
+    Ok(pairs)
+}
+
+/// The item of each pair and the last pair of each item, where the items save one page, none and two.
+pub fn layout(alloc: Global) -> Result<String, Fail> {
+    let layout = counted(alloc)?;
+    let items = pair_items(alloc, &layout)?;
+    let pairs = final_pairs(alloc, &layout)?;
+    Ok(format!(in alloc; "{items:?} {pairs:?}")?)
+}
+
+fn none_kept(alloc: Global) -> Result<Kept, NoMemory> {
+    Kept::none(alloc, &counted(alloc)?)
+}
+
+/// How many pages and facts there are where nothing is kept, and in a copy of that.
+pub fn kept(alloc: Global) -> Result<String, Fail> {
+    let kept = none_kept(alloc)?;
+    let again = kept.copy(alloc)?;
+    let (pages, facts) = (kept.pages.len(), kept.facts.len());
+    let (again_pages, again_facts) = (again.pages.len(), again.facts.len());
+    Ok(format!(in alloc; "{pages} {facts} {again_pages} {again_facts}")?)
+}
+
+/// A copy of facts.
+pub fn facts(alloc: Global) -> Result<String, Fail> {
+    let group = vec![in alloc; PairNo(1)]?;
     let facts = Facts {
         asks: Vec::new(alloc),
         patterns: Vec::new(alloc),
-        trace,
+        trace: vec![in alloc; Mark::Asked(group), Mark::Saved(PairNo(0))]?,
     };
     let again = facts.copy(alloc)?;
-    assert_eq!(rt; again.trace.len(), 2);
-    Ok(())
+    Ok(format!(in alloc; "{again:?}")?)
 }
 
-#[test]
-fn pages(rt: HostRuntime) -> Result<(), Fail> {
-    let body = Text::from_slice(rt.alloc(), b"hi")?;
-    let page = PageRef::new(
-        rt.alloc(),
-        Page {
-            kind: Kind::Text,
-            body,
-        },
-    )?;
-    let second = page.try_clone()?;
-    assert_eq!(rt; second.get().body.as_slice().len(), 2);
-    Ok(())
+/// How long the body of a page is by way of a second owner.
+pub fn page(alloc: Global) -> Result<String, Fail> {
+    let second = texts::page(alloc)?.try_clone()?;
+    let length = second.get().body.as_slice().len();
+    Ok(format!(in alloc; "{length}")?)
 }

@@ -6,20 +6,20 @@ ghost use Rattle.hk_fix.specs.Fix.{Blocks, is_finished};
 ghost use Rattle.hk_fix.specs.Outcomes.{outcome_view};
 ghost use Rattle.hk_fix.specs.Report.{CanReport, WaitsFor, ending_at};
 
-use crate::texts::report_text;
+use crate::texts::no_facts;
 use hk_base::NoMemory;
-use hk_chain::{Facts, Fault, Layout, PairNo};
-use hk_fix::{Outcome, Results, report};
+use hk_chain::{Fault, Layout, PairNo};
+use hk_fix::{Outcome, Report, Results, report};
 use std::alloc::Global;
 use std::test::Fail;
 
 /// A layout where each item has one pair, of its own number.
-fn plain(alloc: Global, items: usize) -> Result<Option<Layout>, NoMemory> {
+fn plain(alloc: Global, items: usize) -> Result<Layout, Fail> {
     let counts = vec![in alloc; 0; items]?;
     if counts.len() > 70_000 {
-        return Ok(None);
+        return Err(Fail::new("too many items"));
     }
-    Ok(Some(Layout::of_counts(alloc, &counts)?))
+    Ok(Layout::of_counts(alloc, &counts)?)
 }
 
 /// Whether each item has an outcome, and waits only for pairs of items that aren't done.
@@ -73,29 +73,27 @@ fn is_unfinished(outcome: &Outcome) -> bool
     !matches!(outcome, Outcome::Done(_))
 }
 
-/// Done for no bytes, a fault for `!`, and else the digits are the pairs that it waits for.
-fn outcome(alloc: Global, text: &[u8]) -> Result<Outcome, NoMemory> {
-    if text.is_empty() {
-        return Ok(Outcome::Done(Facts {
-            asks: Vec::new(alloc),
-            patterns: Vec::new(alloc),
-            trace: Vec::new(alloc),
-        }));
+/// Done for a dot, a fault for `!`, and else the digits are the pairs that it waits for.
+fn outcome(alloc: Global, word: &str) -> Result<Outcome, NoMemory> {
+    match word {
+        "." => Ok(Outcome::Done(no_facts(alloc))),
+        "!" => Ok(Outcome::Failed(Fault::TooDeep)),
+        _ => Ok(Outcome::Waiting(digits(alloc, word.as_bytes())?)),
     }
-    if text[0] == b'!' {
-        return Ok(Outcome::Failed(Fault::TooDeep));
-    }
-    let mut pairs = Vec::new(alloc);
-    for digit in text {
-        pairs.push(PairNo(digit.wrapping_sub(b'0') as u32))?;
-    }
-    Ok(Outcome::Waiting(pairs))
 }
 
-fn outcomes(alloc: Global, texts: &[&[u8]]) -> Result<Vec<Outcome>, NoMemory> {
+fn digits(alloc: Global, word: &[u8]) -> Result<Vec<PairNo>, NoMemory> {
+    let mut pairs = Vec::new(alloc);
+    for digit in word {
+        pairs.push(PairNo(digit.wrapping_sub(b'0') as u32))?;
+    }
+    Ok(pairs)
+}
+
+fn outcomes(alloc: Global, line: &str) -> Result<Vec<Outcome>, NoMemory> {
     let mut outcomes = Vec::new(alloc);
-    for text in texts {
-        outcomes.push(outcome(alloc, text)?)?;
+    for word in line.split_whitespace() {
+        outcomes.push(outcome(alloc, word)?)?;
     }
     Ok(outcomes)
 }
@@ -111,54 +109,35 @@ fn ended(alloc: Global, outcomes: Vec<Outcome>) -> Results
     }
 }
 
-#[test]
-fn reports(rt: HostRuntime) -> Result<(), Fail> {
-    let alloc = rt.alloc();
-    let cases: [(&[&[u8]], &str); 9] = [
-        (&[], ""),
-        (&[b"", b""], ""),
-        (&[b"1", b"0"], "cycle 0 1\n"),
-        (&[b"1", b"0", b"0"], "cycle 0 1\nblocked 2: 0\n"),
-        (&[b"0"], "cycle 0\n"),
-        (&[b"!", b"0"], "failed 0\nblocked 1: 0\n"),
-        (
-            &[b"3", b"2", b"1", b"4", b"3", b"2"],
-            "cycle 1 2\ncycle 3 4\nblocked 0: 3\nblocked 5: 2\n",
-        ),
-        (&[b"20", b"", b"!"], "failed 2\nblocked 0: 2 0\n"),
-        (&[b"2", b"0", b"1"], "cycle 0 2 1\n"),
-    ];
-    for (texts, expected) in cases {
-        let outcomes = outcomes(alloc, texts)?;
-        let layout = plain(alloc, outcomes.len())?;
-        assert!(rt; layout.is_some());
-        if let Some(layout) = layout {
-            assert!(rt; can_report(&layout, &outcomes));
-            let left = report(alloc, &layout, &ended(alloc, outcomes))?;
-            assert_eq!(rt; report_text(alloc, &left)?.as_str(), expected);
-        }
+/// What is left to report of these outcomes.
+fn left(alloc: Global, outcomes: Vec<Outcome>) -> Result<Report, Fail> {
+    let layout = plain(alloc, outcomes.len())?;
+    if !can_report(&layout, &outcomes) {
+        return Err(Fail::new("no outcomes of a run"));
     }
-    Ok(())
+    Ok(report(alloc, &layout, &ended(alloc, outcomes))?)
 }
 
-#[test]
-fn long_lines(rt: HostRuntime) -> Result<(), Fail> {
-    let alloc = rt.alloc();
+/// What is left to report of the outcomes of a row.
+pub fn reported(alloc: Global, line: &str) -> Result<String, Fail> {
+    let left = left(alloc, outcomes(alloc, line)?)?;
+    Ok(format!(in alloc; "{left:?}")?)
+}
+
+/// Each of these waits for the next, and the last one failed.
+fn line_of(alloc: Global, count: u32) -> Result<Vec<Outcome>, NoMemory> {
     let mut outcomes = Vec::new(alloc);
-    for item in 1..65_535 {
-        let mut pairs = Vec::new(alloc);
-        pairs.push(PairNo(item))?;
+    for item in 1..count {
+        let pairs = vec![in alloc; PairNo(item)]?;
         outcomes.push(Outcome::Waiting(pairs))?;
     }
     outcomes.push(Outcome::Failed(Fault::TooDeep))?;
-    let layout = plain(alloc, outcomes.len())?;
-    assert!(rt; layout.is_some());
-    if let Some(layout) = layout {
-        assert!(rt; can_report(&layout, &outcomes));
-        let left = report(alloc, &layout, &ended(alloc, outcomes))?;
-        assert_eq!(rt; left.failed.len(), 1);
-        assert_eq!(rt; left.cycles.len(), 0);
-        assert_eq!(rt; left.blocked.len(), 65_534);
-    }
-    Ok(())
+    Ok(outcomes)
+}
+
+/// How many failures, cycles and blocked items there are in a long line.
+pub fn long_line(alloc: Global) -> Result<String, Fail> {
+    let left = left(alloc, line_of(alloc, 65_535)?)?;
+    let (failed, cycles, blocked) = (left.failed.len(), left.cycles.len(), left.blocked.len());
+    Ok(format!(in alloc; "{failed} {cycles} {blocked}")?)
 }

@@ -1,15 +1,16 @@
 // A compiler that is polled by hand.
 ghost use Rattle.std.specs.Prelude.{◌≡◌, ◌<◌};
 
-use crate::sample::SampleMaker;
-use hk_base::{NoMemory, Text};
-use hk_chain::{ItemNo, Kind, Page, PageRef};
+use crate::texts::page;
+use hk_base::NoMemory;
+use hk_chain::{ItemNo, PageRef};
+use hk_families::SampleMaker;
 use hk_fix::{Compiler, Maker, Polled};
 use std::alloc::Global;
 use std::test::Fail;
 
 /// How a compiler ended: how many pages it saved on its way, and how many pairs it asked for or waits for.
-#[derive(Debug, PartialEq, Eq, Drop)]
+#[derive(Debug, Drop)]
 enum Way {
     Done { saved: u32, asked: usize },
     Failed { saved: u32 },
@@ -67,22 +68,12 @@ fn answer_some<M: Compiler>(
     Ok(())
 }
 
-#[test]
-fn ways(rt: HostRuntime) -> Result<(), Fail> {
-    let alloc = rt.alloc();
+/// The ways of three compilers: one that is told both pages that it wants, one that is told one, and one that fails.
+pub fn ways(alloc: Global) -> Result<String, Fail> {
     let maker = SampleMaker::new();
-    let page = PageRef::new(
-        alloc,
-        Page {
-            kind: Kind::Text,
-            body: Text::from_slice(alloc, b"x")?,
-        },
-    )?;
-    let done = Some(Way::Done { saved: 1, asked: 2 });
-    assert_eq!(rt; gone(alloc, &maker, ItemNo(0), &page, 2)?, done);
-    let waiting = Some(Way::Waiting { saved: 1, open: 1 });
-    assert_eq!(rt; gone(alloc, &maker, ItemNo(1), &page, 1)?, waiting);
-    let failed = Some(Way::Failed { saved: 1 });
-    assert_eq!(rt; gone(alloc, &maker, ItemNo(2), &page, 2)?, failed);
-    Ok(())
+    let page = page(alloc)?;
+    let first = gone(alloc, &maker, ItemNo(0), &page, 2)?;
+    let second = gone(alloc, &maker, ItemNo(1), &page, 1)?;
+    let third = gone(alloc, &maker, ItemNo(2), &page, 2)?;
+    Ok(format!(in alloc; "{first:?} {second:?} {third:?}")?)
 }

@@ -17,6 +17,7 @@ pub mod NamedQuiet
 pub mod NamedRenderings
 pub mod Naming
 pub mod Once
+pub mod Parsing
 pub mod Placings
 pub mod PlanNames
 pub mod Renderables

@@ -7,6 +7,7 @@ use Rattle.hk_fix.specs.Pages.{Pages}
 use Rattle.hk_fix.specs.Task.{Task, Mark, asked, End, done, fault, waits, Run, run}
 use Rattle.hk_template.specs.Template.{IsPrintable}
 use Rattle.hk_template.specs.Tree.{Nodes}
+use Rattle.hk_eval.specs.Blocks.{block_nodes}
 use Rattle.hk_eval.specs.Noted.{noted}
 use Rattle.hk_eval.specs.Value.{Listing, Value, absent, text, flag, list}
 use Rattle.hk_eval.specs.declared.asking.Reply.{Reply}
@@ -38,7 +39,7 @@ listed_end (lists.Asks pairs) = waits pairs.items
 listed_end (lists.Fails e) = fault e
 
 abbrev pub found_end : Found → End Nodes
-found_end (founds.Tree template) = done template
+found_end (founds.Tree block) = done (block_nodes block)
 found_end (founds.Asks pair) = waits (pair ∷ [])
 found_end (founds.Fails e) = fault e
 
@@ -64,7 +65,7 @@ Comes k t old (fault e) new = (run t k).end ≡ fault e
 
 -- a template that was found can be printed
 abbrev pub IsFoundPrintable : Found → Type 0
-IsFoundPrintable (founds.Tree template) = IsPrintable template
+IsFoundPrintable (founds.Tree block) = IsPrintable (block_nodes block)
 IsFoundPrintable _ = Unit {0}
 
 -- the numbers of a list are those of a pattern and of a context of the plan

@@ -1,5 +1,5 @@
 -- Templates of items.
-use Rattle.std.specs.Prelude.{Result, Ok, Err}
+use Rattle.std.specs.Prelude.{◌≡◌, Result, Ok, Err}
 use Rattle.hk_base.specs.Bytes.{Bytes}
 use Rattle.hk_base.specs.Identifier.{Ident}
 use Rattle.hk_chain.specs.declared.page.Page.{Page}
@@ -11,9 +11,14 @@ use Rattle.hk_rules.specs.Pairs.{final_name}
 use Rattle.hk_rules.specs.Plan.{Lookups}
 use Rattle.hk_template.specs.Growing.{read_tree}
 use Rattle.hk_template.specs.Place.{fault_place}
+use Rattle.hk_template.specs.Template.{IsPrintable}
 use Rattle.hk_template.specs.Tree.{Nodes}
 use Rattle.hk_template.specs.declared.fault.TemplateFault.{TemplateFault}
 use Rattle.hk_eval.specs.Asking.{ask}
+
+-- the text has this tree, which can be printed
+abbrev pub IsTreeOf : Bytes → Nodes → Type 0
+IsTreeOf text tree = (read_tree text ≡ Ok tree) × IsPrintable tree
 
 abbrev pub tree_by : Result Nodes TemplateFault → Task Nodes
 tree_by (Ok tree) = gives tree

@@ -10,11 +10,12 @@ ghost use Rattle.hk_eval.specs.Replies.{found_end, Comes, IsFoundPrintable};
 ghost use Rattle.hk_eval.specs.Templates as spec;
 ghost use Rattle.hk_eval.specs.Told.{told_pages};
 
+use crate::block::Block;
 use crate::found::Found;
 use crate::notes::Notes;
 use crate::told::Told;
 use hk_base::{Identifier, NoMemory, Refusal, Text};
-use hk_chain::{Fault, Kind, Page, PairNo};
+use hk_chain::{Fault, Kind, PageRef, PairNo};
 use hk_rules::Plan;
 use hk_template::{grammar_laws, parse};
 use std::alloc::Global;
@@ -22,7 +23,8 @@ use std::alloc::Global;
 /// The template that the item with this identifier ends with. `Missing` where there is no such item, `WrongKind` where its
 /// page is no template, and `BadTemplate` with the first fault's place where the page's body has no tree. Where the page is
 /// wanted and isn't told, nothing is noted, and else the pair is. After `NoMemory` nothing is said of the notes.
-/// Logarithmic, and linear in the item's chain and in the body.
+/// Logarithmic, and linear in the item's chain; the body is parsed once for these notes, so once for each machine that uses
+/// the template, and compared after that. The machines of a plan could share the nodes beside the page inside its `Shared`.
 pub fn find_template(
     alloc: Global,
     plan: &Plan,
@@ -63,21 +65,50 @@ fn template_in(
         return Ok(Found::Asks(pair));
     };
     notes.note_group(alloc, &[pair])?;
-    let found = template_of(alloc, id, page.get())?;
+    let found = template_of(alloc, id, pair, page, notes)?;
     Ok(found)
 }
 
-/// A page of the item with this identifier, which must be a template.
-fn template_of(alloc: Global, id: &Identifier, page: &Page) -> Result<Found, NoMemory>
+/// The page of a pair of the item with this identifier, which must be a template.
+fn template_of(
+    alloc: Global,
+    id: &Identifier,
+    pair: PairNo,
+    page: &PageRef,
+    notes: &mut Notes,
+) -> Result<Found, NoMemory>
     ensures comes { IfOk result (λ r. (k : Pages) → run (spec.need_template id.now page.now) k ≡ record { log = []; end = found_end r }) }
     ensures printable { IfOk result IsFoundPrintable }
+    ensures same { notes.new ≡ notes.old }
 {
-    match page.kind {
-        Kind::Template => read_template(alloc, page.body.as_slice()),
+    match page.get().kind {
+        Kind::Template => tree_of(alloc, pair, page, notes),
         _ => Ok(Found::Fails(Fault::WrongKind {
             id: id.copy(alloc)?,
         })),
     }
+}
+
+/// The tree of a pair's page, which is parsed unless the notes have it.
+fn tree_of(
+    alloc: Global,
+    pair: PairNo,
+    page: &PageRef,
+    notes: &mut Notes,
+) -> Result<Found, NoMemory>
+    ensures comes { IfOk result (λ r. (k : Pages) → run (spec.tree_task page.now.body) k ≡ record { log = []; end = found_end r }) }
+    ensures printable { IfOk result IsFoundPrintable }
+    ensures same { notes.new ≡ notes.old }
+{
+    let text = page.get().body.as_slice();
+    if let Some(block) = notes.nodes(pair, text)? {
+        return Ok(Found::Tree(block));
+    }
+    let found = read_template(alloc, text)?;
+    if let Found::Tree(block) = &found {
+        notes.keep(pair, page, block)?;
+    }
+    Ok(found)
 }
 
 /// The tree of a text that must be a template: the tree, or `BadTemplate` with the first fault's place. Linear.
@@ -87,7 +118,10 @@ pub fn read_template(alloc: Global, text: &[u8]) -> Result<Found, NoMemory>
 {
     grammar_laws();
     match parse(alloc, text) {
-        Ok(template) => Ok(Found::Tree(template)),
+        Ok(template) => {
+            let block = Block::of_template(alloc, &template)?;
+            Ok(Found::Tree(block))
+        }
         Err(Refusal::Fault(fault)) => Ok(Found::Fails(Fault::BadTemplate {
             place: fault.place(),
         })),

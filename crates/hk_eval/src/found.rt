@@ -1,11 +1,12 @@
 // What came of looking for a template.
+use crate::block::Block;
 use hk_chain::{Fault, PairNo};
-use hk_template::Template;
 
 /// What came of looking for a template.
 #[derive(Drop)]
 pub enum Found {
-    Tree(Template),
+    /// The nodes of its tree.
+    Tree(Block),
     /// The page of this pair is wanted.
     Asks(PairNo),
     Fails(Fault),

@@ -19,6 +19,7 @@ mod moves;
 mod named;
 mod node;
 mod notes;
+mod parsed;
 mod place;
 mod placing;
 mod render;

@@ -219,8 +219,7 @@ fn partial_move(
     let id = plain(alloc, path)?;
     let found = find_template(alloc, plan, told, &id, notes)?;
     match found {
-        Found::Tree(tree) => {
-            let block = Block::of_template(alloc, &tree)?;
+        Found::Tree(block) => {
             let place = here.try_clone()?;
             Ok(Move::Push(whole(block, left - 1, place)))
         }

@@ -1,20 +1,27 @@
 // What a chain has used so far.
-ghost use Rattle.std.specs.Prelude.{◌≡◌, ◌++◌, IfOk, OnOk};
+ghost use Rattle.std.specs.Prelude.{◌≡◌, ◌++◌, IfOk, MatchOption, OnOk};
 ghost use Rattle.hk_fix.specs.Facts.{firsts};
+ghost use Rattle.hk_eval.specs.Blocks.{block_nodes};
 ghost use Rattle.hk_eval.specs.Noted.{no_facts, with_group, with_pattern, with_save};
+ghost use Rattle.hk_eval.specs.Templates.{IsTreeOf};
 
+use crate::block::Block;
+use crate::parsed::Parsed;
 use crate::seen::Seen;
 use hk_base::NoMemory;
-use hk_chain::{Facts, Mark, PairNo, PatternNo};
+use hk_chain::{Facts, Mark, PageRef, PairNo, PatternNo};
 use std::alloc::Global;
+use std::collections::BTreeMap;
 use std::marker::Model;
 
-/// The facts of what a chain has done so far.
+/// The facts of what a chain has done so far, and the templates that it parsed, which no contract sees.
 #[derive(Drop)]
 pub struct Notes {
     asks: Seen,
     patterns: Seen,
     trace: Vec<Mark>,
+    /// The parsed templates, each at the number of its page's pair.
+    parsed: BTreeMap<u32, Parsed>,
 }
 
 impl Model for Notes {
@@ -37,6 +44,7 @@ impl Notes {
             asks: Seen::new(alloc),
             patterns: Seen::new(alloc),
             trace: Vec::new(alloc),
+            parsed: BTreeMap::new(alloc),
         }
     }
 
@@ -64,6 +72,32 @@ impl Notes {
         ensures { OnOk result (self.new ≡ with_save self.old pair) }
     {
         self.trace.push(Mark::Saved(pair))?;
+        Ok(())
+    }
+
+    /// One more owner of a template's nodes, where it was parsed for this pair from this text. A refusal counts as want of
+    /// memory. Logarithmic, and linear in the text, which is compared.
+    pub(crate) fn nodes(&self, pair: PairNo, text: &[u8]) -> Result<Option<Block>, NoMemory>
+        ensures { IfOk result (λ o. MatchOption o (Unit {0}) (λ b. IsTreeOf text.now (block_nodes b))) }
+    {
+        match self.parsed.get(&pair.0) {
+            Some(parsed) => parsed.nodes_of(text),
+            None => Ok(None),
+        }
+    }
+
+    /// Keeps the nodes of a pair's page, whose body has the tree. `NoMemory` only for want of memory. Logarithmic.
+    pub(crate) fn keep(
+        &mut self,
+        pair: PairNo,
+        page: &PageRef,
+        block: &Block,
+    ) -> Result<(), NoMemory>
+        requires { IsTreeOf page.now.body (block_nodes block.now) }
+        ensures { self.new ≡ self.old }
+    {
+        let parsed = Parsed::new(page, block)?;
+        self.parsed.insert(pair.0, parsed)?;
         Ok(())
     }
 

@@ -5,6 +5,7 @@ ghost use Rattle.hk_eval.specs.Noted.{no_facts as nothing};
 ghost use Rattle.hk_eval.specs.Rendered.{rendered, fresh, told_page, Polls};
 
 use crate::awaited::Awaited;
+use crate::block::Block;
 use crate::course::{Course, go};
 use crate::notes::Notes;
 use crate::place::Place;
@@ -66,7 +67,8 @@ impl Render {
             page,
             context,
         };
-        let stack = Stack::new(alloc, &tree, here.try_clone()?)?;
+        let block = Block::of_template(alloc, &tree)?;
+        let stack = Stack::new(alloc, block, here.try_clone()?)?;
         let course = Course {
             tree,
             here,

@@ -3,6 +3,7 @@ ghost use Rattle.std.specs.Prelude.{◌≡◌, [], ◌∷◌, IfOk};
 ghost use Rattle.hk_rules.specs.Plan.{Lookups, lookups};
 ghost use Rattle.hk_rules.specs.PlanView.{PlanView};
 ghost use Rattle.hk_template.specs.Template.{IsPrintable};
+ghost use Rattle.hk_eval.specs.Blocks.{block_nodes};
 ghost use Rattle.hk_eval.specs.Going.{Stops};
 ghost use Rattle.hk_eval.specs.Left.{left_of, IsStackOf};
 ghost use Rattle.hk_eval.specs.Rendering.{render};
@@ -20,7 +21,6 @@ use crate::step::step;
 use crate::told::Told;
 use hk_base::{NoMemory, Text};
 use hk_rules::Plan;
-use hk_template::Template;
 use std::alloc::Global;
 use std::mem;
 
@@ -45,14 +45,12 @@ impl Stack {
         }
     }
 
-    /// The rendering of a template at a place, which hasn't begun. `NoMemory` only for want of memory. Linear in the
-    /// template.
-    pub fn new(alloc: Global, tree: &Template, here: Place) -> Result<Stack, NoMemory>
-        requires { IsPrintable tree.now }
-        ensures left { IfOk result (λ s. (plan : Lookups) → left_of plan s ≡ render plan tree.now here) }
+    /// The rendering of a template's nodes at a place, which hasn't begun. `NoMemory` only for want of memory. Constant.
+    pub fn new(alloc: Global, block: Block, here: Place) -> Result<Stack, NoMemory>
+        requires { IsPrintable (block_nodes block) }
+        ensures left { IfOk result (λ s. (plan : Lookups) → left_of plan s ≡ render plan (block_nodes block) here) }
         ensures within { IfOk result (λ s. (plan : PlanView) → IsPlaceOf plan here → IsStackOf plan s) }
     {
-        let block = Block::of_template(alloc, tree)?;
         let mut frames = Vec::new(alloc);
         frames.push(whole(block, LEVELS, here))?;
         Ok(Stack {

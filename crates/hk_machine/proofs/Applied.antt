@@ -8,6 +8,7 @@ use Rattle.hk_fix.specs.Run.{saves_of}
 use Rattle.hk_fix.specs.Task.{Task, ◌▷◌, waits, Run, run}
 use Rattle.hk_rules.specs.Plan.{Lookups}
 use Rattle.hk_template.specs.Tree.{Nodes}
+use Rattle.hk_eval.specs.Blocks.{block_nodes}
 use Rattle.hk_eval.specs.Asking.{is_text, text_if}
 use Rattle.hk_eval.specs.Laws.{quiet-bind}
 use Rattle.hk_eval.specs.Leading.{Leads}
@@ -27,7 +28,7 @@ use Rattle.hk_machine.specs.declared.act.Act.TheVariants as acts
 
 -- a template that was read leaves no log
 pub ran-comes : (k : Pages) (t : Task Nodes) (old : FactsView) (found : Found) → run t k ≡ record { log = []; end = found_end found } → Comes k t old (found_end found) old
-ran-comes k t old (founds.Tree tree) e = ([], e, refl)
+ran-comes k t old (founds.Tree block) e = ([], e, refl)
 ran-comes k t old (founds.Asks pair) e = (ap (λ (r : Run Nodes). r.end) e, refl)
 ran-comes k t old (founds.Fails x) e = ap (λ (r : Run Nodes). r.end) e
 
@@ -43,13 +44,13 @@ module _ (plan : Lookups) (k : Pages) (t : Task Nodes) (q : Quiet t) (item conte
 
   -- what came of the template, and what began with it
   pub begins-acts : (x : Page) (found : Found) (act : Act) → Comes k t old (found_end found) new → Begins plan (record { item = item; page = page; context = context }) found act → Acts plan k (t ▷ rendered_task plan item context page) x old act new
-  begins-acts x (founds.Tree tree) act c b =
+  begins-acts x (founds.Tree block) act c b =
       subst (λ (a : Act). Acts plan k (t ▷ R) x old a new) (sym b.1)
       (record {
         log = c.0;
         quiet = ap (λ (r : Run Nodes). saves_of r.log) (sym c.1) ∙ quiet-run t k q;
         notes = c.2;
-        leads = subst (λ (u : Task Page). Leads k (t ▷ R) c.0 u) (ap (λ u. u ▷ page_with) (sym b.2)) (leads-done k t R c.0 tree c.1);
+        leads = subst (λ (u : Task Page). Leads k (t ▷ R) c.0 u) (ap (λ u. u ▷ page_with) (sym b.2)) (leads-done k t R c.0 (block_nodes block) c.1);
       })
   begins-acts x (founds.Asks pair) act c b =
       subst (λ (a : Act). Acts plan k (t ▷ R) x old a new) (sym b.1)

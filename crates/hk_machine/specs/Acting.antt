@@ -9,6 +9,7 @@ use Rattle.hk_fix.specs.Task.{Task, gives, fails, notes, saved, ◌▷◌, Mark,
 use Rattle.hk_fix.specs.Run.{saves_of}
 use Rattle.hk_rules.specs.Plan.{Lookups}
 use Rattle.hk_rules.specs.PlanView.{PlanView}
+use Rattle.hk_eval.specs.Blocks.{block_nodes}
 use Rattle.hk_eval.specs.Quiet.{Quiet}
 use Rattle.hk_eval.specs.Leading.{Went}
 use Rattle.hk_eval.specs.Left.{left_of, IsStackOf}
@@ -55,7 +56,7 @@ Makes t page (acts.Fails e) = t ≡ fails e
 
 -- what a step comes to that renders a template at a place: a rendering that hasn't begun, a wait, or a fault
 abbrev pub Begins : Lookups → Place → Found → Act → Type 0
-Begins plan here (founds.Tree tree) act = (stack : Stack) × (act ≡ acts.Renders stack) × (left_of plan stack ≡ render plan tree here)
+Begins plan here (founds.Tree block) act = (stack : Stack) × (act ≡ acts.Renders stack) × (left_of plan stack ≡ render plan (block_nodes block) here)
 Begins plan here (founds.Asks pair) act = (pairs : Vec PairNo Global) × (act ≡ acts.Asks pairs) × (pairs.items ≡ pair ∷ [])
 Begins plan here (founds.Fails e) act = act ≡ acts.Fails e
 

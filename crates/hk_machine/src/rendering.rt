@@ -19,7 +19,7 @@ use hk_rules::Plan;
 use std::alloc::Global;
 
 /// The step that renders the current page, which must be text, by the template that another item ends with. Logarithmic,
-/// and linear in that item's chain and in the template.
+/// and linear in that item's chain and in the template, which is parsed unless the notes have it.
 pub(crate) fn apply(
     alloc: Global,
     plan: &Plan,
@@ -96,8 +96,8 @@ fn begin(alloc: Global, found: Found, here: Place) -> Result<Act, NoMemory>
     ensures within { IfOk result (λ a. (plan : PlanView) → IsPlaceOf plan here → IsActOf plan a) }
 {
     match found {
-        Found::Tree(tree) => {
-            let stack = Stack::new(alloc, &tree, here)?;
+        Found::Tree(block) => {
+            let stack = Stack::new(alloc, block, here)?;
             Ok(Act::Renders(stack))
         }
         Found::Asks(pair) => Ok(Act::Asks(one(alloc, pair)?)),

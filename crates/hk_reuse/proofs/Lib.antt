@@ -13,5 +13,6 @@ pub mod Lists
 pub mod Logs
 pub mod Over
 pub mod Sites
+pub mod Storables
 pub mod Tests
 pub mod Unchanged

@@ -9,3 +9,4 @@ pub mod Over
 pub mod Rebuilt
 pub mod Replay
 pub mod Site
+pub mod Storable

@@ -6,6 +6,7 @@ mod leaving;
 mod rebuilding;
 mod replaying;
 mod rows;
+mod storing;
 
 pub use keeping::{kept_items_are_seeds, kept_unless_changed, unchanged_plans_keep_all};
 pub use leaving::builds_leave_entries;
@@ -14,3 +15,4 @@ pub use rebuilding::{
 };
 pub use replaying::{replays_keep_laws, replays_stand_over_runs};
 pub use rows::worked_rows;
+pub use storing::entries_are_stored;

@@ -1,82 +1,11 @@
-// Which values the rules of two files have.
+// Which values the rules of a file have, as text.
 use hk_base::Text;
 use hk_chain::{Context, Field, Order, Step};
 use hk_pattern::Pattern;
 use hk_route::Route;
-use hk_rules::{Rule, RuleSource, Rules, read_rules};
+use hk_rules::{Rule, RuleSource, read_rules};
 use std::alloc::{AllocError, Global};
 use std::test::Fail;
-
-/// The rules of a blog.
-const BLOG: &str = r#"
-[[rule]]
-match = "images/*"
-route = "id"
-compile = ["copy"]
-[[rule]]
-match = "css/*"
-route = "id"
-compile = ["string"]
-[[rule]]
-match = "about.md"
-route = { extension = "html" }
-compile = ["body", { apply = "templates/default.html" }, "relativize"]
-[[rule]]
-match = "posts/*"
-route = { extension = "html" }
-compile = ["body", { save = "content" }, { apply = "templates/post.html", context = "post" }, { apply = "templates/default.html", context = "post" }, "relativize"]
-[[rule]]
-create = ["archive.html"]
-route = "id"
-compile = [{ make = "" }, { apply = "templates/archive.html", context = "archive" }, { apply = "templates/default.html", context = "archive" }, "relativize"]
-[[rule]]
-match = "index.html"
-route = "id"
-compile = ["body", { self = "index" }, { apply = "templates/default.html", context = "index" }, "relativize"]
-[[rule]]
-match = "templates/*"
-compile = ["template"]
-[context.post]
-fields = [{ date = ["date", "%B %e, %Y"] }, "default"]
-[context.archive]
-fields = [{ list = "posts", of = "posts/*", order = "recent", context = "post" }, { const = ["title", "Archives"] }, "default"]
-[context.index]
-fields = [{ list = "posts", of = "posts/*", order = "recent", limit = 2, snapshot = "content", context = "teaser" }, "default"]
-[context.teaser]
-fields = [{ teaser = ["teaser", "content"] }, { date = ["date", "%B %e, %Y"] }, "default"]
-"#;
-
-/// What the rules, the contexts and the patterns of the blog are.
-const BLOG_READ: [&str; 13] = [
-    "match images/*, id: copy",
-    "match css/*, id: string",
-    "match about.md, html: body, apply templates/default.html 1, relativize",
-    "match posts/*, html: body, save content, apply templates/post.html 3, apply templates/default.html 3, relativize",
-    "create archive.html, id: make, apply templates/archive.html 0, apply templates/default.html 0, relativize",
-    "match index.html, id: body, self 2, apply templates/default.html 2, relativize",
-    "match templates/*, no route: template",
-    "archive: list posts of 0 _final recent all 3, const title Archives, body, metadata, url, path, title",
-    "default: body, metadata, url, path, title",
-    "index: list posts of 0 content recent 2 4, body, metadata, url, path, title",
-    "post: date date %B %e, %Y, body, metadata, url, path, title",
-    "teaser: teaser teaser content, date date %B %e, %Y, body, metadata, url, path, title",
-    "posts/*",
-];
-
-/// Patterns that are named more than once.
-const SHARED: &str = r#"
-[[rule]]
-create = ["all"]
-compile = [{ concat = "a" }, { concat = { not = "a" } }, { concat = { glob = "a" } }, { concat = { not = "a" } }]
-"#;
-
-/// What the rule, the context that is built in and the patterns are.
-const SHARED_READ: [&str; 4] = [
-    "create all, no route: concat 0, concat 1, concat 0, concat 1",
-    "default: body, metadata, url, path, title",
-    "a",
-    "?",
-];
 
 fn shown(text: &Text) -> &str {
     text_shown(text.as_slice())
@@ -214,47 +143,23 @@ fn context_text(alloc: Global, context: &Context) -> Result<String, AllocError> 
     Ok(text)
 }
 
-/// The rules that a text has.
-fn read(alloc: Global, text: &str) -> Result<Rules, Fail> {
-    Ok(read_rules(alloc, text.as_bytes()).ok().ok_or("refused")?)
-}
-
-/// A line for each rule, each context and each pattern.
-fn lines_of(alloc: Global, rules: &Rules) -> Result<Vec<String>, AllocError> {
-    let mut lines = Vec::new(alloc);
+/// A line for each rule, each context and each pattern of a rules file.
+pub fn rules_text(alloc: Global, text: &str) -> Result<String, Fail> {
+    let rules = read_rules(alloc, text.as_bytes())?;
+    let mut lines = String::new(alloc);
     for rule in rules.rules.iter() {
-        lines.push(rule_text(alloc, rule)?)?;
+        add_line(&mut lines, rule_text(alloc, rule)?.as_str())?;
     }
     for context in rules.contexts.iter() {
-        lines.push(context_text(alloc, context)?)?;
+        add_line(&mut lines, context_text(alloc, context)?.as_str())?;
     }
     for pattern in rules.patterns.iter() {
-        lines.push(String::from_str(alloc, glob_shown(pattern))?)?;
+        add_line(&mut lines, glob_shown(pattern))?;
     }
     Ok(lines)
 }
 
-/// The first line that isn't the wanted one; `None` where all are and there is no more.
-fn first_other<'a>(lines: &'a [String], wanted: &[&str]) -> Option<&'a str> {
-    if lines.len() != wanted.len() {
-        return Some("another number of lines");
-    }
-    for (line, wanted) in lines.iter().zip(wanted) {
-        if line.as_str() != *wanted {
-            return Some(line.as_str());
-        }
-    }
-    None
-}
-
-#[test]
-fn reads_whole_files(rt: HostRuntime) -> Result<(), Fail> {
-    let alloc = rt.alloc();
-    let cases: [(&str, &[&str]); 2] = [(BLOG, &BLOG_READ), (SHARED, &SHARED_READ)];
-    for (text, wanted) in cases {
-        let lines = lines_of(alloc, &read(alloc, text)?)?;
-        let other = first_other(&lines, wanted).unwrap_or("all");
-        assert!(rt; other == "all", "read {other}");
-    }
-    Ok(())
+fn add_line(lines: &mut String, line: &str) -> Result<(), AllocError> {
+    lines.push_str(line)?;
+    lines.push_str("\n")
 }

@@ -2,6 +2,10 @@
 #![tactic(auto)]
 
 #[cfg(test)]
+mod deep;
+#[cfg(test)]
+mod driving;
+#[cfg(test)]
 mod machine;
 #[cfg(test)]
 mod many;

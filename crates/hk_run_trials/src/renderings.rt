@@ -41,7 +41,7 @@ pub fn rendered(
 }
 
 /// A rendering that hasn't begun.
-pub fn begun(
+fn begun(
     alloc: Global,
     site: &Site,
     tree: Template,
@@ -109,7 +109,7 @@ fn answered(
 }
 
 /// The first open pair.
-pub fn first_open(render: &Render) -> Option<PairNo>
+fn first_open(render: &Render) -> Option<PairNo>
     ensures { MatchOption result (render.now.awaits ≡ []) (λ pair. Contains render.now.awaits pair) }
 {
     let open = render.open_pairs();
@@ -133,6 +133,7 @@ fn known_page(
     Err(Fail::from("no such page"))
 }
 
+/// A page.
 pub fn page(alloc: Global, kind: Kind, body: &[u8]) -> Result<PageRef, Fail> {
     let body = Text::from_slice(alloc, body)?;
     Ok(PageRef::new(alloc, Page { kind, body })?)

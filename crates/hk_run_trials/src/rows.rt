@@ -7,7 +7,7 @@ use std::alloc::Global;
 use std::test::Fail;
 
 const RULES: &[u8] =
-    b"[[rule]]\nmatch = \"*.md\"\ncompile = [\"string\", { save = \"s\" }]\n\n[[rule]]\nmatch = \"t/*\"\ncompile = [\"string\"]\n\n[context.one]\nfields = [\"body\", \"metadata\", \"path\"]\n\n[context.out]\nfields = [\n{ bool = [\"f\", false] },\n{ bool = [\"g\", true] },\n{ const = [\"e\", \"\"] },\n{ const = [\"c\", \"x\"] },\n{ const = [\"c\", \"y\"] },\n{ list = \"none\", of = \"z/*\", context = \"one\" },\n{ list = \"only\", of = \"a.md\", context = \"one\" },\n{ list = \"all\", of = \"*.md\", context = \"one\" },\n{ list = \"new\", of = \"*.md\", context = \"one\", order = \"recent\", limit = 2 },\n{ list = \"old\", of = \"*.md\", context = \"one\", order = \"chronological\", limit = 2 },\n{ list = \"undated\", of = \"t/*\", context = \"one\", order = \"recent\" },\n{ teaser = [\"t\", \"s\"] },\n\"default\",\n]\n";
+    b"[[rule]]\nmatch = \"*.md\"\ncompile = [\"string\", { save = \"s\" }]\n\n[[rule]]\nmatch = \"t/*\"\ncompile = [\"string\"]\n\n[context.one]\nfields = [\"body\", \"metadata\", \"path\"]\n\n[context.out]\nfields = [\n{ bool = [\"f\", false] },\n{ bool = [\"g\", true] },\n{ const = [\"e\", \"\"] },\n{ const = [\"c\", \"x\"] },\n{ const = [\"c\", \"y\"] },\n{ list = \"none\", of = \"z/*\", context = \"one\" },\n{ list = \"only\", of = \"a.md\", context = \"one\" },\n{ list = \"all\", of = \"*.md\", context = \"one\" },\n{ list = \"new\", of = \"*.md\", context = \"one\", order = \"recent\", limit = 2 },\n{ list = \"old\", of = \"*.md\", context = \"one\", order = \"chronological\", limit = 2 },\n{ list = \"undated\", of = \"t/text\", context = \"one\", order = \"recent\" },\n{ list = \"kinds\", of = \"t/*\", context = \"one\" },\n{ teaser = [\"t\", \"s\"] },\n\"default\",\n]\n";
 
 /// The number of the context `out`: the contexts are `default`, `one` and `out`.
 const OUT: u32 = 2;
@@ -78,7 +78,7 @@ fn wrong(alloc: Global, rows: &[Row<'_>]) -> Result<Option<usize>, Fail> {
 
 #[test]
 fn texts_and_keys(rt: HostRuntime) -> Result<(), Fail> {
-    let rows: [Row<'_>; 10] = [
+    let rows: [Row<'_>; 12] = [
         (b"", b"", 0),
         (b"$$", b"$", 0),
         (b"a \n$-c-$\n b", b"axb", 0),
@@ -89,6 +89,8 @@ fn texts_and_keys(rt: HostRuntime) -> Result<(), Fail> {
         (b"$all$", b"!no text all", 0),
         (b"$g$", b"!no text g", 0),
         (b"$f$", b"!no key f", 0),
+        (b"$q$$all$", b"!no key q", 0),
+        (b"$all$$q$", b"!no text all", 0),
     ];
     assert_eq!(rt; wrong(rt.alloc(), &rows)?, None);
     Ok(())
@@ -112,7 +114,7 @@ fn conditions(rt: HostRuntime) -> Result<(), Fail> {
 
 #[test]
 fn lists(rt: HostRuntime) -> Result<(), Fail> {
-    let rows: [Row<'_>; 12] = [
+    let rows: [Row<'_>; 14] = [
         (b"[$for(none)$x$sep$,$endfor$]", b"[]", 0),
         (b"$for(only)$[$path$]$sep$,$endfor$", b"[a.md]", 1),
         (
@@ -137,6 +139,8 @@ fn lists(rt: HostRuntime) -> Result<(), Fail> {
         ),
         (b"$for(c)$x$endfor$", b"!no list c", 0),
         (b"$for(q)$x$endfor$", b"!no key q", 0),
+        (b"$for(undated)$x$endfor$", b"!no date of t/text", 1),
+        (b"$for(kinds)$x$endfor$", b"!wrong kind of t/bad", 6),
     ];
     assert_eq!(rt; wrong(rt.alloc(), &rows)?, None);
     Ok(())

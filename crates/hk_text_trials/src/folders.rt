@@ -1,8 +1,11 @@
-// Folders and sinks in memory at work.
+// Folders and outputs in memory at work.
+use crate::row::shown;
 use hk_base::{NoMemory, Text};
-use hk_outside::{CallKind, Fail, MemSink, MemTree, Sink, StillSink, StillTree, Tree, TreeFault};
+use hk_outside::{
+    CallKind, Fail as Failing, MemSink, MemTree, Sink, StillSink, StillTree, Tree, TreeFault,
+};
 use std::alloc::Global;
-use std::test;
+use std::test::Fail;
 
 fn file(alloc: Global, path: &str, bytes: &str) -> Result<(Text, Text), NoMemory> {
     Ok((
@@ -21,90 +24,98 @@ fn files(alloc: Global) -> Result<Vec<(Text, Text)>, NoMemory> {
     Ok(files)
 }
 
-fn one_fail(
-    alloc: Global,
-    call: CallKind,
-    number: u64,
-    torn: Option<usize>,
-) -> Result<Vec<Fail>, NoMemory> {
-    let fails = vec![in alloc; Fail { call, number, torn }]?;
-    Ok(fails)
+/// What one list, read, write and removal in turn answer.
+fn calls<T: Tree>(alloc: Global, tree: &mut T) -> Result<String, Fail> {
+    let count = tree.list(alloc).map(|paths| paths.len());
+    let size = tree
+        .read(alloc, b"a.txt")
+        .map(|bytes| bytes.map(|bytes| bytes.len()));
+    let written = tree.write(alloc, b"c/d.txt", b"new");
+    let removed = tree.remove(alloc, b"b.txt");
+    Ok(format!(in alloc; "list {count:?}, read {size:?}, write {written:?}, remove {removed:?}")?)
 }
 
-/// How many of one list, read, write and removal in turn had an answer.
-fn answered<T: Tree>(alloc: Global, tree: &mut T) -> u32 {
-    let mut count = 0;
-    if let Ok(paths) = tree.list(alloc) {
-        count += paths.len().min(1) as u32;
+/// What stands at a path, behind the calls so far.
+fn left(alloc: Global, before: String, bytes: Option<&[u8]>) -> Result<String, Fail> {
+    match bytes {
+        Some(bytes) => Ok(format!(in alloc; "{before}; {}", shown(alloc, bytes)?)?),
+        None => Ok(format!(in alloc; "{before}; none")?),
     }
-    if let Ok(Some(_)) = tree.read(alloc, b"a.txt") {
-        count += 1;
-    }
-    if tree.write(alloc, b"c/d.txt", b"new").is_ok() {
-        count += 1;
-    }
-    if tree.remove(alloc, b"b.txt").is_ok() {
-        count += 1;
-    }
-    count
 }
 
+/// A folder that never fails, or one where only so many calls have an answer.
+pub fn folder(alloc: Global, fuse: &[u8]) -> Result<String, Fail> {
+    if fuse.is_empty() {
+        still(alloc)
+    } else {
+        fused(alloc, str::from_utf8(fuse)?.parse::<u64>()?)
+    }
+}
+
+fn still(alloc: Global) -> Result<String, Fail> {
+    let mut tree = StillTree::new(alloc, files(alloc)?)?;
+    let mut text = calls(alloc, &mut tree)?;
+    for path in [b"a.txt".as_slice(), b"b.txt", b"c/d.txt"] {
+        text = left(alloc, text, tree.get(path))?;
+    }
+    Ok(text)
+}
+
+fn fused(alloc: Global, fuse: u64) -> Result<String, Fail> {
+    let mut tree = MemTree::new(alloc, files(alloc)?, Vec::new(alloc), Some(fuse))?;
+    let mut text = calls(alloc, &mut tree)?;
+    for path in [b"a.txt".as_slice(), b"b.txt", b"c/d.txt"] {
+        text = left(alloc, text, tree.get(path))?;
+    }
+    Ok(text)
+}
+
+/// A write, by a small function without a promise.
+fn put<T: Tree>(alloc: Global, tree: &mut T, path: &[u8]) -> Result<(), TreeFault> {
+    tree.write(alloc, path, b"abc")
+}
+
+/// Three writes of which the second fails, and leaves so many first bytes or what there was.
+pub fn torn(alloc: Global, count: &[u8]) -> Result<String, Fail> {
+    let torn = match count {
+        [] => None,
+        _ => Some(str::from_utf8(count)?.parse::<usize>()?),
+    };
+    let fails = vec![in alloc;
+        Failing {
+            call: CallKind::Write,
+            number: 2,
+            torn
+        },
+    ]?;
+    let mut tree = MemTree::new(alloc, files(alloc)?, fails, None)?;
+    let first = put(alloc, &mut tree, b"b.txt");
+    let second = put(alloc, &mut tree, b"a.txt");
+    let text = left(
+        alloc,
+        format!(in alloc; "{first:?}, {second:?}")?,
+        tree.get(b"a.txt"),
+    )?;
+    let third = put(alloc, &mut tree, b"a.txt");
+    Ok(format!(in alloc; "{text}; {third:?}")?)
+}
+
+/// A line, by a small function without a promise.
 fn say<W: Sink>(alloc: Global, sink: &mut W, text: &str) -> Result<(), TreeFault> {
     sink.write(alloc, text.as_bytes())
 }
 
-#[test]
-fn a_still_tree_answers(rt: HostRuntime) -> Result<(), test::Fail> {
-    let alloc = rt.alloc();
-    let mut tree = StillTree::new(alloc, files(alloc)?)?;
-    assert!(rt; tree.get(b"a.txt") == Some(b"last".as_slice()));
-    assert_eq!(rt; answered(alloc, &mut tree), 4);
-    assert!(rt; tree.get(b"b.txt").is_none());
-    assert!(rt; tree.get(b"c/d.txt") == Some(b"new".as_slice()));
-    Ok(())
-}
-
-#[test]
-fn a_fuse_ends_the_calls(rt: HostRuntime) -> Result<(), test::Fail> {
-    let alloc = rt.alloc();
-    for fuse in 0..5u32 {
-        let mut tree = MemTree::new(alloc, files(alloc)?, Vec::new(alloc), Some(u64::from(fuse)))?;
-        assert_eq!(rt; answered(alloc, &mut tree), fuse);
-        assert_eq!(rt; tree.get(b"b.txt").is_some(), fuse < 4);
-        assert_eq!(rt; tree.get(b"c/d.txt").is_some(), fuse > 2);
-    }
-    Ok(())
-}
-
-#[test]
-fn a_torn_write_leaves_a_front(rt: HostRuntime) -> Result<(), test::Fail> {
-    let alloc = rt.alloc();
-    for (torn, left) in [
-        (None, "last"),
-        (Some(0), ""),
-        (Some(2), "ab"),
-        (Some(9), "abc"),
-    ] {
-        let fails = one_fail(alloc, CallKind::Write, 2, torn)?;
-        let mut tree = MemTree::new(alloc, files(alloc)?, fails, None)?;
-        assert!(rt; tree.write(alloc, b"b.txt", b"abc") == Ok(()));
-        assert!(rt; tree.write(alloc, b"a.txt", b"abc") == Err(TreeFault::Failed));
-        assert!(rt; tree.get(b"a.txt") == Some(left.as_bytes()));
-        assert!(rt; tree.write(alloc, b"a.txt", b"abc") == Ok(()));
-    }
-    Ok(())
-}
-
-#[test]
-fn sinks_keep_what_was_written(rt: HostRuntime) -> Result<(), test::Fail> {
-    let alloc = rt.alloc();
+/// What two outputs keep: one that never fails, and one whose second write does.
+pub fn output(alloc: Global) -> Result<String, Fail> {
     let mut still = StillSink::new(alloc)?;
-    assert!(rt; say(alloc, &mut still, "one\n") == Ok(()));
-    assert!(rt; still.as_slice() == b"one\n".as_slice());
+    say(alloc, &mut still, "one\n")?;
     let mut sink = MemSink::new(alloc, vec![in alloc; (2u64, 3usize), (2u64, 0usize)]?)?;
-    assert!(rt; say(alloc, &mut sink, "one\n") == Ok(()));
-    assert!(rt; say(alloc, &mut sink, "two\n") == Err(TreeFault::Failed));
-    assert!(rt; say(alloc, &mut sink, "three\n") == Ok(()));
-    assert!(rt; sink.as_slice() == b"one\ntwothree\n".as_slice());
-    Ok(())
+    let first = say(alloc, &mut sink, "one\n");
+    let second = say(alloc, &mut sink, "two\n");
+    let third = say(alloc, &mut sink, "three\n");
+    let (one, all) = (
+        shown(alloc, still.as_slice())?,
+        shown(alloc, sink.as_slice())?,
+    );
+    Ok(format!(in alloc; "{one}; {first:?}, {second:?}, {third:?}; {all}")?)
 }

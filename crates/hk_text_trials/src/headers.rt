@@ -1,153 +1,56 @@
 // Headers, companions and what they say of a page.
-use hk_base::{NoMemory, Refusal};
-use hk_meta::{HeaderFault, Metadata, merge, read_companion, split};
+use crate::row::{shared, shown};
+use hk_meta::{Metadata, date_of, format_date, merge, pattern_ok, read_companion, split};
 use std::alloc::Global;
+use std::fmt::Write;
 use std::test::Fail;
 
-const FILE: &[u8] =
-    b"---\ntitle: \"A: \\\"b\\\"\"\ntags: [x, 'y z']\n# c\nlist:\n- p\n- q # r\ntitle: T\n---\nbody\n";
-
-/// The pairs of a file with those of a companion, in order.
-const PAIRS: [(&[u8], &[u8]); 4] = [
-    (b"title", b"T"),
-    (b"tags", b"x, y z"),
-    (b"list", b"p, q"),
-    (b"sub", b"S"),
-];
-
-/// Files, and the fault of each header.
-const REFUSED: [(&[u8], Option<HeaderFault>); 8] = [
-    (
-        b"---\na:\n  b: c\n---\n",
-        Some(HeaderFault::BadLine { line: 3 }),
-    ),
-    (b"---\na: |\n", Some(HeaderFault::Unclosed { line: 1 })),
-    (b"---", Some(HeaderFault::Unclosed { line: 1 })),
-    (b"---\n- x\n---\n", Some(HeaderFault::BadLine { line: 2 })),
-    (b"---\r\na: b\r\n--- \t\r\n", None),
-    (b"--- x\n", None),
-    (b"----\n", None),
-    (b"", None),
-];
-
-/// Companions, and the value that they give the key `k`; nothing where they are refused.
-const VALUES: [(&[u8], Option<&[u8]>); 24] = [
-    (b"k: \"x", None),
-    (b"k: 'x", None),
-    (b"k: \"\\q\"", None),
-    (b"k: \"\\n\\t\\\\\"", Some(b"\n\t\\")),
-    (b"k: 'it''s' # c", Some(b"it's")),
-    (b"k: 'x'#c", None),
-    (b"k: [x", None),
-    (b"k: [x, [y]]", None),
-    (b"k: [ a #b , , \"c, d\" ]", Some(b"a #b, c, d")),
-    (b"k: []", Some(b"")),
-    (b"k:\tx\t", Some(b"x")),
-    (b"k : x # y", Some(b"x")),
-    (b"k: x#y", Some(b"x#y")),
-    (b"k: x\r\n", Some(b"x")),
-    (b"k: x\r", Some(b"x\r")),
-    (b"k:x", None),
-    (b"k\xc3\xa9: x", None),
-    (b" k: x", None),
-    (b"k: *x", None),
-    (b"k:\n-\n\n- : x\n- \"\"\n", Some(b", : x, ")),
-    (b"k: #c\n- x\n", Some(b"x")),
-    (b"k: \"\"\n- x\n", None),
-    (b"k: x\nk:\n", Some(b"")),
-    (b"k:\n---\n- x", Some(b"x")),
-];
-
-/// That threads may share it.
-fn shared<T: Send + Sync>(value: &T) -> &T {
-    value
-}
-
-fn merged(alloc: Global, file: &[u8], companion: &[u8]) -> Result<Metadata, Fail> {
-    let parts = split(alloc, file)?;
-    let companion = read_companion(alloc, companion)?;
-    Ok(merge(alloc, parts.meta, companion)?)
-}
-
-fn is_pair(meta: &Metadata, place: usize, key: &[u8], value: &[u8]) -> bool {
-    shared(meta).entry(place) == Some((key, value))
-}
-
-#[test]
-fn a_header_and_a_companion(rt: HostRuntime) -> Result<(), Fail> {
-    let meta = merged(rt.alloc(), FILE, b"title: U\nsub: S\n")?;
-    for (place, (key, value)) in PAIRS.iter().enumerate() {
-        assert!(rt; is_pair(&meta, place, *key, *value), "{key:?}");
+/// The pairs of the metadata in their order.
+fn pairs(alloc: Global, meta: &Metadata) -> Result<String, Fail> {
+    let mut text = String::new(alloc);
+    for place in 0..100 {
+        let Some((key, value)) = shared(meta).entry(place) else {
+            return Ok(text);
+        };
+        write!(text, "[{}: {}]", shown(alloc, key)?, shown(alloc, value)?)?;
     }
-    assert!(rt; meta.entry(4).is_none());
-    Ok(())
+    Err(Fail::new("more pairs than a row has"))
 }
 
-fn fault_of(alloc: Global, file: &[u8]) -> Option<HeaderFault> {
+/// The pairs of a header, and where the body starts.
+pub fn header(alloc: Global, file: &[u8]) -> Result<String, Fail> {
     match split(alloc, file) {
-        Err(Refusal::Fault(fault)) => Some(fault),
-        _ => None,
+        Ok(parts) => {
+            let mut text = pairs(alloc, &parts.meta)?;
+            write!(text, " {}", parts.body_start)?;
+            Ok(text)
+        }
+        Err(refusal) => Ok(format!(in alloc; "{refusal:?}")?),
     }
 }
 
-#[test]
-fn refused_headers(rt: HostRuntime) {
-    for (file, wanted) in &REFUSED {
-        assert_eq!(rt; fault_of(rt.alloc(), *file), *wanted);
-    }
-}
-
-/// Whether a companion gives the key `k` this value, and is refused where there is none.
-fn is_value(alloc: Global, text: &[u8], wanted: Option<&[u8]>) -> bool {
+pub fn companion(alloc: Global, text: &[u8]) -> Result<String, Fail> {
     match read_companion(alloc, text) {
-        Ok(meta) => wanted.is_some() && meta.get(b"k") == wanted,
-        Err(Refusal::Fault(_)) => wanted.is_none(),
-        Err(Refusal::NoMemory) => false,
+        Ok(meta) => pairs(alloc, &meta),
+        Err(refusal) => Ok(format!(in alloc; "{refusal:?}")?),
     }
 }
 
-#[test]
-fn values(rt: HostRuntime) {
-    for (text, wanted) in &VALUES {
-        assert!(rt; is_value(rt.alloc(), *text, *wanted), "{text:?}");
-    }
+/// The pairs of a header and a companion together.
+pub fn both(alloc: Global, file: &[u8], text: &[u8]) -> Result<String, Fail> {
+    let parts = split(alloc, file)?;
+    let companion = read_companion(alloc, text)?;
+    pairs(alloc, &merge(alloc, parts.meta, companion)?)
 }
 
-/// A text that repeats a part between two others.
-fn repeated(alloc: Global, before: &[u8], part: &[u8], after: &[u8]) -> Result<Vec<u8>, NoMemory> {
-    let mut text = Vec::from_slice(alloc, before)?;
-    for _ in 0..100_000 {
-        text.extend_from_slice(part)?;
+/// The date of the page with this companion and this path, by a pattern.
+pub fn date(alloc: Global, text: &[u8], path: &[u8], pattern: &[u8]) -> Result<String, Fail> {
+    let meta = read_companion(alloc, text)?;
+    let Some(date) = date_of(&meta, path) else {
+        return Ok(String::from_str(alloc, "no date")?);
+    };
+    if !pattern_ok(pattern) {
+        return Ok(String::from_str(alloc, "no pattern")?);
     }
-    text.extend_from_slice(after)?;
-    Ok(text)
-}
-
-/// How long the value of the key `k` is, in a companion that repeats a part so often; nothing where that is refused.
-fn long_value(
-    alloc: Global,
-    before: &[u8],
-    part: &[u8],
-    after: &[u8],
-) -> Result<Option<usize>, NoMemory> {
-    let text = repeated(alloc, before, part, after)?;
-    match read_companion(alloc, &text) {
-        Ok(meta) => Ok(meta.get(b"k").map(|value| value.len())),
-        Err(_) => Ok(None),
-    }
-}
-
-#[test]
-fn long_companions(rt: HostRuntime) -> Result<(), Fail> {
-    let alloc = rt.alloc();
-    let rows: [(&[u8], &[u8], &[u8], Option<usize>); 4] = [
-        (b"k: ", b"0123456789", b"", Some(1_000_000)),
-        (b"k:\n", b"- x\n", b"", Some(299_998)),
-        (b"k: [", b",", b"]", Some(0)),
-        (b"k: [", b",", b"", None),
-    ];
-    for (before, part, after, wanted) in rows {
-        assert_eq!(rt; long_value(alloc, before, part, after)?, wanted);
-    }
-    Ok(())
+    Ok(shown(alloc, format_date(alloc, &date, pattern)?.as_slice())?)
 }

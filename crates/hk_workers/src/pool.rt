@@ -4,7 +4,7 @@ ghost use denote.Param.Send.{IsSync};
 ghost use Rattle.hk_chain.specs.Kept.{IsKept};
 ghost use Rattle.hk_fix.specs.Fix.{seeds_of};
 ghost use Rattle.hk_sched.specs.Lawful.{IsRunOf};
-ghost use Rattle.hk_lock.specs.View.{IsIdle, IsSeatFor, IsFirstSeat};
+ghost use Rattle.hk_lock.specs.View.{IsSeatFor, IsFirstSeat};
 ghost use Rattle.hk_ready.specs.View.{IsPassFor};
 ghost use Rattle.hk_lock.specs.Lawful.{IsLawfulFor};
 ghost use Rattle.hk_workers.specs.Working.{IsBoardFor, HasCommon};
@@ -37,10 +37,10 @@ struct Job<M: Compiler> {
     pass: Pass<M>,
 }
 
-/// Runs all compilers by 1 to 64 workers, each in a thread of its own, and what they left on the caller's thread. The gate
-/// is told before each poll and after its answer was handed on. `NoMemory` only for want of memory, of the caller or of any
-/// worker. Linear in the polls, the items and the pairs, but
-/// for the waiting and the compilers' own work.
+/// Runs all compilers by 1 to 64 workers, each in a thread of its own, and what they left on the caller's thread. It may
+/// wait, for the workers and where these wait for one another. The gate is told before each poll and after its answer was
+/// handed on. `NoMemory` only for want of memory, of the caller or of any worker. Linear in the polls, the items and the
+/// pairs, but for the waiting and the compilers' own work.
 pub fn run_pool<K: Maker + Sync, G: Gate, R: Threads + Wait + Sync>(
     rt: &R,
     alloc: Global,

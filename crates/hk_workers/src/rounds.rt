@@ -1,11 +1,9 @@
 // A run in rounds of polls side by side, in which nothing waits.
 ghost use Rattle.std.specs.Prelude.{◌≡◌, ◌<◌, ◌≤◌, Some, IfOk, All};
-ghost use denote.Param.Send.{IsSync};
 ghost use Rattle.hk_chain.specs.Kept.{IsKept};
 ghost use Rattle.hk_fix.specs.Fix.{seeds_of};
 ghost use Rattle.hk_sched.specs.Lawful.{IsRunOf};
-ghost use Rattle.hk_lock.specs.Lawful.{IsLawfulFor};
-ghost use Rattle.hk_workers.specs.Working.{IsBoardFor, IsTurnFor, HasCommon};
+ghost use Rattle.hk_workers.specs.Working.{IsBoardFor, HasCommon};
 ghost use Rattle.hk_workers.specs.Rounds.{IsSlot};
 
 use crate::key::Key;

@@ -1,5 +1,5 @@
 // The steps of a worker that has the board, and of a compiler in its hand. None of them waits.
-ghost use Rattle.std.specs.Prelude.{◌≡◌, IfOk, IfSome};
+ghost use Rattle.std.specs.Prelude.{IfOk, IfSome};
 ghost use Rattle.hk_lock.specs.Lawful.{IsLawfulFor};
 ghost use Rattle.hk_workers.specs.Working.{IsBoardFor, IsTurnFor, IsPlay, HasPolled, HasCommon, GoesOn};
 

@@ -15,10 +15,10 @@ use hk_sched::{Board, Turn};
 use std::alloc::Global;
 use std::sync::Wait;
 
-/// Takes turns and runs their compilers, until it finds nothing ready or wants memory. A compiler is polled without the
-/// board, and the gate is told before each poll and after its answer was laid on the board. The seat comes back with the
-/// view that it had, and the pass with the same key. Linear in what it is handed, but for the waiting and the compilers'
-/// own work.
+/// Takes turns and runs their compilers, until it finds nothing ready or wants memory. A compiler is made and polled without
+/// the board, and the gate is told before each poll and after its answer was laid on the board. It may wait for other seats
+/// and passes. The seat comes back with the view that it had, and the pass with the same key. Linear in what it is handed,
+/// but for the waiting and the compilers' own work.
 pub fn worker<K: Maker, G: Gate, R: Wait>(
     rt: &R,
     alloc: Global,

@@ -1,17 +1,19 @@
 // What one worker takes from a desk and leaves there.
 ghost use Rattle.std.specs.Prelude.{◌≡◌, IfOk};
-ghost use Rattle.hk_board_trials.specs.Sample.{sample_shape};
+ghost use Rattle.hk_families.specs.Sample.{sample_shape};
 
 use crate::gates::Counter;
 use hk_base::{NoMemory, Shared};
-use hk_board_trials::{SampleMaker, Sampler};
 use hk_chain::{ItemNo, Kept, Layout};
-use hk_fix::Maker;
+use hk_families::{SampleMaker, Sampler};
+use hk_fix::{Maker, Results};
+use hk_outside::OpenGate;
 use hk_sched::Turn;
-use hk_workers::{Desk, Pass, Ready, open_desk, worker};
+use hk_workers::{Desk, Pass, Ready, open_desk, run_pool, run_rounds, worker};
 use std::alloc::Global;
 use std::sync::Wait;
 use std::test::Fail;
+use std::thread::Threads;
 
 /// A maker whose every compiler wants memory.
 #[derive(Drop)]
@@ -127,5 +129,32 @@ fn a_worker_shares_what_it_finds(rt: HostRuntime) -> Result<(), Fail> {
         assert!(rt; unpolled[item as usize] == is_out);
         assert!(rt; (seen.enters[item as usize] == 0) == is_out);
     }
+    Ok(())
+}
+
+/// A run by four workers, each of which wants memory.
+fn poor_pool<R: Threads + Wait + Sync>(rt: &R, alloc: Global) -> Result<Results, NoMemory> {
+    let layout = Shared::new(alloc, three_items(alloc)?)?;
+    let kept = Kept::none(alloc, layout.get())?;
+    let poor = Poor {
+        sample: SampleMaker::new(),
+    };
+    run_pool(rt, alloc, layout, kept, &poor, 4, &OpenGate)
+}
+
+/// The same in rounds.
+fn poor_rounds<R: Threads + Sync>(rt: &R, alloc: Global) -> Result<Results, NoMemory> {
+    let layout = Shared::new(alloc, three_items(alloc)?)?;
+    let kept = Kept::none(alloc, layout.get())?;
+    let poor = Poor {
+        sample: SampleMaker::new(),
+    };
+    run_rounds(rt, alloc, layout, kept, &poor, 4)
+}
+
+#[test]
+fn want_of_memory_is_answered(rt: HostRuntime) -> Result<(), Fail> {
+    assert!(rt; poor_pool(&rt, rt.alloc()).is_err());
+    assert!(rt; poor_rounds(&rt, rt.alloc()).is_err());
     Ok(())
 }

@@ -1,11 +1,11 @@
 // Two polls side by side.
 ghost use Rattle.std.specs.Prelude.{◌≡◌, IfOk};
-ghost use Rattle.hk_board_trials.specs.Mutual.{mutual_shape};
+ghost use Rattle.hk_families.specs.Mutual.{mutual_shape};
 
 use crate::gates::Meeting;
 use hk_base::{NoMemory, Shared};
-use hk_board_trials::MutualMaker;
 use hk_chain::{Kept, Layout};
+use hk_families::MutualMaker;
 use hk_fix::Results;
 use hk_workers::run_pool;
 use std::alloc::Global;

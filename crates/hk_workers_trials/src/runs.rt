@@ -1,11 +1,11 @@
 // Runs by several workers and in rounds, whose results are those of one thread.
 ghost use Rattle.std.specs.Prelude.{◌≡◌, ◌<◌, ◌≤◌, IfOk};
-ghost use Rattle.hk_board_trials.specs.Mutual.{mutual_shape};
-ghost use Rattle.hk_board_trials.specs.Sample.{sample_shape};
+ghost use Rattle.hk_families.specs.Mutual.{mutual_shape};
+ghost use Rattle.hk_families.specs.Sample.{sample_shape};
 
 use hk_base::{NoMemory, Shared};
-use hk_board_trials::{MutualMaker, SampleMaker};
 use hk_chain::{Kept, Layout};
+use hk_families::{MutualMaker, SampleMaker};
 use hk_fix::{Outcome, Results};
 use hk_outside::OpenGate;
 use hk_workers::{run_pool, run_rounds};

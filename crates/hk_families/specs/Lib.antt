@@ -1,0 +1,4 @@
+pub mod Mutual
+pub mod MutualLaws
+pub mod Sample
+pub mod SampleLaws

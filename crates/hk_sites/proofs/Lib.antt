@@ -1,0 +1,13 @@
+pub mod CleanBuilds
+pub mod Fingerprints
+pub mod HeldIds
+pub mod KeptItems
+pub mod Lawful
+pub mod MadePlans
+pub mod OwnPatterns
+pub mod PlanSites
+pub mod Runs
+pub mod ShaDigests
+pub mod SmallFields
+pub mod SmallRules
+pub mod Storables

@@ -1,0 +1,3 @@
+pub mod PlanSite
+pub mod Rebuilding
+pub mod Sizes
