@@ -6,3 +6,6 @@ pub mod PageMaps
 pub mod PageWrites
 pub mod SourceReads
 mod Tracing
+mod Machines
+mod Plans
+mod Renderings

@@ -5,11 +5,13 @@ mod compile;
 mod ended;
 mod folder;
 mod pages;
+mod pool;
 mod reading;
 mod run;
 mod status;
 mod trace;
 
+pub use pool::site_main;
 pub use run::site_main_one;
 pub use status::Status;
 

@@ -135,7 +135,7 @@ fn build_plan<O: Tree>(
 }
 
 /// What a build does with the results of its compilers. Where the trace is asked for, it stands in front of the text.
-fn end_build<O: Tree>(
+pub fn end_build<O: Tree>(
     alloc: Global,
     site: &mut O,
     plan: &Plan,
@@ -230,7 +230,7 @@ fn done(alloc: Global, plan: &Plan, counts: &Counts) -> Result<Ended, NoMemory>
 }
 
 /// Writes the text of a run, and turns the status where it cannot be written.
-fn say<W: Sink>(alloc: Global, out: &mut W, text: &[u8], status: Status) -> Status
+pub fn say<W: Sink>(alloc: Global, out: &mut W, text: &[u8], status: Status) -> Status
     requires { status ≢ Status.OutFault × status ≢ Status.NoMemory }
     ensures said { SaysAs (output (W.written out.old) (W.faults out.old)) (output (W.written out.new) (W.faults out.new)) text.now status result }
     ensures later { W.faults out.old ≤ W.faults out.new }

@@ -1,9 +1,11 @@
 // The top call on folders in memory that fail.
-use crate::{Status, site_main_one};
+use crate::{Status, site_main, site_main_one};
 use hk_base::{NoMemory, Text};
-use hk_outside::{CallKind, Fail, MemSink, MemTree};
+use hk_outside::{CallKind, Fail, MemSink, MemTree, OpenGate};
 use std::alloc::Global;
+use std::sync::Wait;
 use std::test;
+use std::thread::Threads;
 
 const RULES: &str = "[[rule]]\nmatch = \"a.txt\"\nroute = \"id\"\ncompile = [\"copy\"]\n";
 
@@ -96,5 +98,44 @@ fn the_text_is_one_write(rt: HostRuntime) -> Result<(), test::Fail> {
         assert_eq!(rt; out.as_slice(), text.as_bytes());
         assert!(rt; site.get(b"a.txt") == Some(b"hi\n".as_slice()));
     }
+    Ok(())
+}
+
+/// What a build by two workers answers, and what it prints.
+fn run_two<R: Threads + Wait + Sync>(
+    rt: &R,
+    alloc: Global,
+    site: &mut MemTree,
+    out: &mut MemSink,
+) -> Result<Status, NoMemory> {
+    let mut words = Vec::new(alloc);
+    for word in ["build", "--workers=2", "--trace"] {
+        words.push(String::from_str(alloc, word)?)?;
+    }
+    let mut source = fused(alloc, &SOURCE, None)?;
+    let mut cache = fused(alloc, &[], Some(0))?;
+    Ok(site_main(
+        rt,
+        alloc,
+        &words,
+        &mut source,
+        site,
+        &mut cache,
+        out,
+        &OpenGate,
+    ))
+}
+
+#[test]
+fn two_workers_build(rt: HostRuntime) -> Result<(), test::Fail> {
+    let alloc = rt.alloc();
+    let mut site = fused(alloc, &SITE, None)?;
+    let mut out = MemSink::new(alloc, Vec::new(alloc))?;
+    let status = run_two(&rt, alloc, &mut site, &mut out)?;
+    assert_eq!(rt; status, Status::Ok);
+    let text: &[u8] = b"begin a.txt\ndone a.txt\ncompiled 1, reused 0, written 1, removed 1\n";
+    assert_eq!(rt; out.as_slice(), text);
+    assert!(rt; site.get(b"a.txt") == Some(b"hi\n".as_slice()));
+    assert!(rt; site.get(b"old.txt").is_none());
     Ok(())
 }

@@ -12,8 +12,9 @@ mod walk;
 
 use crate::os_tree::OsTree;
 use crate::std_sink::StdSink;
-use hk_app::{Status, site_main_one};
+use hk_app::{Status, site_main};
 use hk_base::NoMemory;
+use hk_outside::OpenGate;
 use std::alloc::Global;
 use std::io::ErrorKind;
 use std::process::ExitCode;
@@ -35,13 +36,15 @@ fn run(rt: &HostRuntime, alloc: Global) -> Result<Status, NoMemory> {
     let mut site = OsTree::new(rt, String::from_str(alloc, "_site")?);
     let mut cache = OsTree::new(rt, String::from_str(alloc, "_cache")?);
     let mut out = StdSink::new(io::writer(rt));
-    Ok(site_main_one(
+    Ok(site_main(
+        rt,
         alloc,
         words.as_slice(),
         &mut source,
         &mut site,
         &mut cache,
         &mut out,
+        &OpenGate,
     ))
 }
 

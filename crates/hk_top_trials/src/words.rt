@@ -13,15 +13,17 @@ fn read(alloc: Global, line: &str) -> Result<Option<Command>, NoMemory> {
     command(alloc, &words)
 }
 
-fn build(trace: bool) -> Command {
-    Command::Build(BuildOptions { trace })
+fn build(workers: u32, trace: bool) -> Command {
+    Command::Build(BuildOptions { workers, trace })
 }
 
 #[test]
 fn words_are_a_command_or_none(rt: HostRuntime) -> Result<(), Fail> {
     for (line, wanted) in [
-        ("build", Some(build(false))),
-        ("build --trace", Some(build(true))),
+        ("build", Some(build(1, false))),
+        ("build --trace", Some(build(1, true))),
+        ("build --workers=2 --trace", Some(build(2, true))),
+        ("build --trace --workers 0000000064", Some(build(64, true))),
         ("check", Some(Command::Check)),
         ("", None),
         ("make", None),
@@ -39,7 +41,9 @@ fn words_are_a_command_or_none(rt: HostRuntime) -> Result<(), Fail> {
         ("build --workers 65", None),
         ("build --trace --trace", None),
         ("build --trace=x", None),
-        ("build --workers 2", None),
+        ("build --workers 00000000002", None),
+        ("build --workers +2", None),
+        ("check --workers 2", None),
         ("check --trace", None),
         ("check x", None),
         ("check -- x", None),
@@ -51,6 +55,6 @@ fn words_are_a_command_or_none(rt: HostRuntime) -> Result<(), Fail> {
 
 #[test]
 fn usage_has_a_line_for_each_command(rt: HostRuntime) {
-    let text: &[u8] = b"usage: hakyll_cli build [--trace]\n       hakyll_cli check\n";
+    let text: &[u8] = b"usage: hakyll_cli build [--workers N] [--trace]\n       hakyll_cli check\n";
     assert_eq!(rt; usage_text(), text);
 }

@@ -9,9 +9,11 @@ pub enum Command {
     Check,
 }
 
-/// What a build does besides.
+/// How a build runs, and what it prints.
 #[derive(Clone, Copy, Debug, PartialEq, Eq)]
 pub struct BuildOptions {
+    /// How many workers run the compilers, from 1 to 64.
+    pub workers: u32,
     /// Whether a line for each event of the run stands in front of its text.
     pub trace: bool,
 }

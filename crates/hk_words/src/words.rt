@@ -13,8 +13,9 @@ use std::alloc::Global;
 /// The command that the words are, or `None` exactly where they are none.
 ///
 /// The first word is the command's name, `build` or `check`. After it stand its options, in any order and each at most
-/// once, and its operands. `build` takes `--trace`, and `check` takes nothing. Any other word, as `--`, `-h`, `--help` or a
-/// repeated option, makes the words no command.
+/// once, and its operands. `build` takes `--workers`, with the next word or what follows `=`, and `--trace`; `check` takes
+/// nothing. Workers are a number from 1 to 64 in one to ten digits, and one where none is given. Any other word, as `--`,
+/// `-h`, `--help` or a repeated option, makes the words no command.
 ///
 /// `NoMemory` only for want of memory. Linear in the bytes of the words.
 pub fn command(alloc: Global, words: &[String]) -> Result<Option<Command>, NoMemory>
@@ -56,16 +57,26 @@ fn named(name: &str, arguments: &Arguments) -> Option<Command>
     }
 }
 
-/// A build, which takes `--trace`.
+/// A build, which takes `--workers` and `--trace`.
 fn build(arguments: &Arguments) -> Option<Command>
     ensures { result ≡ spec.build_of arguments.now }
 {
-    if arguments.workers.is_some() || arguments.operands.is_some() {
+    if arguments.operands.is_some() {
         return None;
     }
     Some(Command::Build(BuildOptions {
+        workers: workers_or_one(arguments.workers),
         trace: arguments.trace,
     }))
+}
+
+fn workers_or_one(workers: Option<u32>) -> u32
+    ensures { result ≡ spec.workers_or_one workers }
+{
+    match workers {
+        Some(workers) => workers,
+        None => 1,
+    }
 }
 
 /// A command that takes no option and no operand.
