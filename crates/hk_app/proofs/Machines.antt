@@ -1,7 +1,15 @@
 -- Threads may pass machines on and share what makes them.
 use denote.Param.Send.{IsSend, IsSync, view_send, sendable}
-use denote.Param.SendFields.{declared_send, declared_sync}
-use Rattle.std.proofs.Crossing.{Vec-send, crosses}
+use denote.Param.SendFields.{declared_send, declared_sync, as_row_send}
+use denote.Builtin.{u32}
+use Rattle.std_collections.proofs.Crosses.{BTreeMap-send}
+use Rattle.std.proofs.Crossing.{Vec-send, send, frees}
+use Rattle.std.specs.contracts.alloc.Global as Heap
+use Rattle.std.specs.contracts.collections.BTreeMap as BTreeMap
+use Rattle.std.specs.contracts.impls.GlobalAllocator.TheImpl as heap
+use Rattle.std.specs.contracts.prelude.U32Ord.TheImpl as u32-ord
+use Rattle.std.specs.contracts.prelude.U32PartialEq.TheImpl as u32-eq
+use Rattle.std.specs.contracts.prelude.U32PartialOrd.TheImpl as u32-partial
 use Rattle.std.proofs.option.Option.TheSendSync as option
 use Rattle.hk_base.proofs.shared.Shared.TheSendSync as shared
 use Rattle.hk_chain.proofs.facts.Mark.TheSendSync as mark
@@ -31,7 +39,9 @@ parsed_send : IsSend parsed.the_row
 parsed_send = view_send _ _ _ _ _ (declared_send inside-parsed.the_type (shared.the_send page.the_row pages.the_send pages.the_sync, (block_send, tt)))
 
 notes_send : IsSend notes.the_row
-notes_send = let p = parsed_send in view_send _ _ _ _ _ (declared_send inside-notes.the_type (seen.the_send, (seen.the_send, (Vec-send _ mark.the_send, (search (sendable, crosses) depth 20, tt)))))
+notes_send =
+    let map = as_row_send (BTreeMap.the_field u32 parsed.the_row Heap.the_row u32-ord.ghosts u32-eq.ghosts u32-partial.ghosts heap.ghosts) (BTreeMap-send u32 parsed.the_row Heap.the_row u32-ord.ghosts u32-eq.ghosts u32-partial.ghosts heap.ghosts (search sendable) parsed_send send frees) in
+    view_send _ _ _ _ _ (declared_send inside-notes.the_type (seen.the_send, (seen.the_send, (Vec-send _ mark.the_send, (map, tt)))))
 
 work_send : IsSend work.the_row
 work_send = declared_send work.the_type (search sendable, (shared.the_send page.the_row pages.the_send pages.the_sync, (option.the_send stack.the_row stack_send, (notes_send, tt))))

@@ -71,8 +71,15 @@ fn work_in_pool<R: Threads + Wait + Sync, S: Tree, O: Tree, C: Tree, G: Gate>(
         (folders (folder (S.files source.new) (S.faults source.new)) (folder (O.files site.new) (O.faults site.new)) (folder (C.files cache.new) (C.faults cache.new)))
         result }
 {
+    has_workers(words, options);
     build_in_pool(rt, alloc, options, source, site, gate)
 }
+
+/// The workers of a build number 1 to 64.
+fn has_workers(words: &[String], options: BuildOptions)
+    requires { spec.command (map (λ w. string_bytes w) words.now) ≡ Some (the.Build options) }
+    ensures { HasWorkers (the.Build options) }
+{}
 
 fn build_in_pool<R: Threads + Wait + Sync, S: Tree, O: Tree, G: Gate>(
     rt: &R,
