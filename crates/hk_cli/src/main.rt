@@ -18,26 +18,32 @@ use hk_outside::OpenGate;
 use std::alloc::Global;
 use std::io::ErrorKind;
 use std::process::ExitCode;
+use std::sync::Wait;
+use std::thread::Threads;
 use std::{env, io};
 
 /// Does what the words say in the folder in which the program runs: the sources are there, the site in `_site` and the
 /// store in `_cache`. The exit code is that of the status.
 fn main(rt: HostRuntime) -> ExitCode {
-    let status = match run(&rt, rt.alloc()) {
+    let status = match run(&rt, &rt, rt.alloc()) {
         Ok(status) => status,
         Err(NoMemory) => Status::NoMemory,
     };
     ExitCode::from(status.code())
 }
 
-fn run(rt: &HostRuntime, alloc: Global) -> Result<Status, NoMemory> {
+fn run<R: Threads + Wait + Sync>(
+    rt: &HostRuntime,
+    threads: &R,
+    alloc: Global,
+) -> Result<Status, NoMemory> {
     let words = words(rt, alloc)?;
     let mut source = OsTree::new(rt, String::from_str(alloc, ".")?);
     let mut site = OsTree::new(rt, String::from_str(alloc, "_site")?);
     let mut cache = OsTree::new(rt, String::from_str(alloc, "_cache")?);
     let mut out = StdSink::new(io::writer(rt));
     Ok(site_main(
-        rt,
+        threads,
         alloc,
         words.as_slice(),
         &mut source,
