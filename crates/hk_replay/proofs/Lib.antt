@@ -1,0 +1,7 @@
+pub mod Answered
+pub mod Answering
+pub mod Holding
+pub mod Noting
+pub mod Passing
+pub mod Phases
+pub mod Polling

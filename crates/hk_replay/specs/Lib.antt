@@ -1,0 +1,9 @@
+pub mod Finding
+pub mod Going
+pub mod Keeping
+pub mod Lawful
+pub mod Merging
+pub mod RecordsOnce
+pub mod Replaying
+pub mod Replays
+pub mod Turning
