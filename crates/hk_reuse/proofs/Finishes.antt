@@ -65,7 +65,7 @@ pub saves-used : (ns : List ℕ) → saves_of (used_marks ns) ≡ []
 saves-used [] = refl
 saves-used (n ∷ ns) = saves-used ns
 
-patterns-used : (ns : List ℕ) → patterns_of (used_marks ns) ≡ ns
+pub patterns-used : (ns : List ℕ) → patterns_of (used_marks ns) ≡ ns
 patterns-used [] = refl
 patterns-used (n ∷ ns) = ap (λ l. n ∷ l) (patterns-used ns)
 

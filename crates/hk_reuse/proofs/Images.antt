@@ -1,22 +1,30 @@
--- The entries that a build leaves are as a store's entries are, and the same by identifiers as in a list.
+-- The entries that a build leaves are as a store's entries are.
 use Rattle.std.proofs.Common.{◌≡◌, refl, sym, ap, ◌∙◌, subst, ℕ, ◌<◌, Bool, true, false, List, [], ◌∷◌, ◌++◌, map, Option, Some, None, nat_eq, eq-eqb}
 use Rattle.std.specs.List.{AllByRecursion, IsDistinct}
 use Rattle.std.proofs.lemmas.List.{map-append}
 use Rattle.hk_chain.specs.Facts.{FactsView, TraceMark, group, save}
-use Rattle.hk_chain.specs.Layout.{pairs}
+use Rattle.hk_chain.specs.declared.page.Page.{Page}
+use Rattle.hk_chain.specs.Layout.{Shape, pairs, final_of}
 use Rattle.hk_chain.specs.Traces.{asked_in, AreFacts}
 use Rattle.hk_fix.specs.Pages.{Pages}
-use Rattle.hk_fix.specs.Fix.{Ending, finished, faulted, waiting}
+use Rattle.hk_fix.specs.Run.{patterns_of}
+use Rattle.hk_fix.specs.Task.{done, Run}
+use Rattle.hk_fix.specs.Facts.{facts_of, final_mark, whole_log}
+use Rattle.hk_fix.specs.Fix.{IsSetting, Ending, finished, faulted, waiting, fix, status}
 use Rattle.hk_fix.specs.Table.{same_key, IsTable}
+use Rattle.hk_fix.proofs.Firsts.{firsts-all}
 use Rattle.hk_fix.proofs.Orders.{clash}
-use Rattle.hk_fix.proofs.Traces.{status-facts}
+use Rattle.hk_fix.proofs.Traces.{went-through, status-facts}
 use Rattle.hk_store.specs.Digests.{Digests}
 use Rattle.hk_store.specs.Entry.{MarkView}
-use Rattle.hk_reuse.specs.Entries.{AskOnce, IsSave, LastSaves, IsFormed, AreFormed}
+use Rattle.hk_reuse.specs.Builds.{left}
+use Rattle.hk_reuse.specs.Entries.{Entries, AskOnce, IsSave, LastSaves, IsFormed, AreFormed}
 use Rattle.hk_reuse.specs.Image.{ask_view, mark_view, entry_with, entry_by, entry_at, entries_of, image}
 use Rattle.hk_reuse.specs.Site.{Items, AreItems, Site, items_of, shape_of, clean_run, no_seeds, built, endings, IsSite}
+use Rattle.hk_reuse.specs.Rebuilt.{rebuilt, reendings, replay_run}
+use Rattle.hk_reuse.proofs.Laws.{replay-laws}
 use Rattle.hk_reuse.proofs.Lists.{all-front, all-back}
-use Rattle.hk_reuse.proofs.Sites.{no-seeds, laws-of}
+use Rattle.hk_reuse.proofs.Sites.{no-seeds, laws-of, patterns-done}
 use Rattle.hk_reuse.proofs.Tests.{keys-same}
 
 -- parts of lists without repeats
@@ -94,3 +102,20 @@ pub image-formed : (dig : Digests) (site : Site) → IsSite site → AreFormed (
 image-formed dig site s =
     entries-formed dig (items_of site) (site-items site s) (endings site) (built site)
     (λ i f lt e. status-facts (shape_of site) (clean_run site) no_seeds (record { shape = s.shape; laws = laws-of site s; sown = no-seeds (shape_of site) }) (λ j g lt w. cc) i f lt e)
+
+-- whatever well-formed entries a build was over
+pub left-formed : (dig : Digests) (site : Site) (entries : Entries) → IsSite site → AreFormed entries → AreFormed (left dig site entries)
+left-formed dig site entries s formed =
+    entries-formed dig (items_of site) (site-items site s) (reendings dig site entries) (rebuilt dig site entries)
+    (λ i f lt e. status-facts (shape_of site) (replay_run dig site entries) no_seeds (record { shape = s.shape; laws = replay-laws dig site s entries formed; sown = no-seeds (shape_of site) }) (λ j g lt w. cc) i f lt e)
+
+-- where the runs use patterns below a limit, so do the facts of done items
+pub facts-below : (lay : Shape) (run : ℕ → Pages → Run Page) (limit : ℕ) → IsSetting lay run no_seeds
+    → ((i : ℕ) (k : Pages) → i < lay.items → AllByRecursion (λ n. n < limit) (patterns_of (run i k).log))
+    → (i : ℕ) (f : FactsView) → i < lay.items → status lay run no_seeds i ≡ finished f → AllByRecursion (λ n. n < limit) f.patterns
+facts-below lay run limit given below i f lt e =
+    let r = run i (fix lay run no_seeds) in
+    let w : (x : Page) × (r.end ≡ done x) × (f ≡ facts_of (whole_log lay i r)) = went-through lay run no_seeds given i f refl e in
+    let used : patterns_of (whole_log lay i r) ≡ patterns_of r.log = ap (λ v. patterns_of (r.log ++ final_mark (final_of lay i) v)) w.1 ∙ patterns-done r.log (final_of lay i) w.0 in
+    subst (λ (g : FactsView). AllByRecursion (λ n. n < limit) g.patterns) (sym w.2)
+    (firsts-all (λ n. n < limit) [] (patterns_of (whole_log lay i r)) (subst (AllByRecursion (λ n. n < limit)) (sym used) (below i (fix lay run no_seeds) lt)))

@@ -61,7 +61,7 @@ module _ (dig : Digests) (old new : Site) (o : IsSite old) (n : IsSite new) (apa
   unfolding status
   done-finished i x e = ap (λ z. is_finished (ends_with (whole_log lay i (clean_run new i (built new))) z)) e
 
-  finishes : (i : ℕ) → is_kept dig new E i ≡ true → (i < lay.items) × (is_finished (endings new i) ≡ true)
+  pub finishes : (i : ℕ) → is_kept dig new E i ≡ true → (i < lay.items) × (is_finished (endings new i) ≡ true)
   finishes i t =
       let w = and-both (nat_lt i lay.items) (kept_by dig (items_of new) (rebuilt dig new E) i (E (new.deeds.id i))) t in
       let lt : i < lay.items = ltb-true i lay.items w.0 in

@@ -1,9 +1,10 @@
 -- The replay keeps the laws of a family of compilers, whatever entries there are.
-use Rattle.std.proofs.Common.{◌≡◌, refl, sym, ap, ◌∙◌, subst, ℕ, ◌<◌, Bool, true, false, cond, ◌||◌, ◌&&◌, List, [], ◌∷◌, ◌++◌, map, append-nil, append_assoc, Option, Some, None, is_some, nat_eq, bytes_eq, eqb-true}
+use Rattle.std.proofs.Common.{◌≡◌, refl, sym, ap, ◌∙◌, subst, ℕ, ◌<◌, Bool, true, false, cond, ◌||◌, ◌&&◌, List, [], ◌∷◌, ◌++◌, map, append-nil, append_assoc, Option, Some, None, is_some, nat_eq, nat_lt, bytes_eq, eqb-true, ltb-true}
 use Rattle.std.specs.List.{AllByRecursion, IsDistinct, list_all}
+use Rattle.std.specs.Ordering.{eq_by_cmp}
 use Rattle.std.specs.Cmp.Lexicographic.{pointwise}
 use Rattle.hk_base.specs.Bytes.{Bytes}
-use Rattle.hk_base.specs.Identifier.{Ident}
+use Rattle.hk_base.specs.Identifier.{Ident, ident_cmp}
 use Rattle.hk_base.specs.Ties.{bytes-same}
 use Rattle.hk_chain.specs.declared.page.Page.{Page}
 use Rattle.hk_chain.specs.Layout.{Shape, pairs}
@@ -20,7 +21,7 @@ use Rattle.hk_fix.specs.DeedLaws.{key-same, deeds-chains}
 use Rattle.hk_fix.specs.Deeds.{pair_or, on_way, task_of}
 use Rattle.hk_fix.proofs.Firsts.{SameMembers}
 use Rattle.hk_store.specs.Digests.{Digests}
-use Rattle.hk_store.specs.Entry.{AskView, MarkView, asked as recorded, stored, EntryView}
+use Rattle.hk_store.specs.Entry.{AskView, MatchView, MarkView, asked as recorded, stored, EntryView}
 use Rattle.hk_reuse.specs.Entries.{Entries, front, last_page, saved_names, AskOnce, LastSaves, IsFormed, AreFormed}
 use Rattle.hk_reuse.specs.Fits.{ask_fits, mark_fits, pattern_fits, fits}
 use Rattle.hk_reuse.specs.Replay.{Attempt, through, broke, same_pages, asked_pairs, pattern_numbers, without, note_all, finish, attempt, attempt_of, replay_by}
@@ -199,17 +200,27 @@ all-but-last (x ∷ xs) (y ∷ ys) a b e =
     let t : xs ++ a ∷ [] ≡ ys ++ b ∷ [] = cc in
     rw (h, all-but-last xs ys a b t) refl
 
--- what an entry that fits has but for its last mark
+patterns-within : (items : Items) (ms : List MatchView) → list_all (pattern_fits items) ms ≡ true → AllByRecursion (λ n. n < items.patterns) (map (λ m. items.table.number m.text) ms)
+patterns-within items [] t = tt
+patterns-within items (m ∷ ms) t =
+    let number = items.table.number m.text in
+    let w = and-both (pattern_fits items m) (list_all (pattern_fits items) ms) t in
+    let v = and-both (nat_lt number items.patterns && bytes_eq (items.table.pattern number) m.text) (pointwise (eq_by_cmp ident_cmp) (items.table.matches m.text) m.matches) w.0 in
+    let u = and-both (nat_lt number items.patterns) (bytes_eq (items.table.pattern number) m.text) v.0 in
+    (ltb-true number items.patterns u.0, patterns-within items ms w.1)
+
+-- the patterns of an entry that fits, and its marks but the last
 pub record Fitting (dig : Digests) (items : Items) (i : ℕ) (e : EntryView) : Type 0 where
   pub names : saved_names (front e.marks) ≡ items.names i
   pub marks : list_all (mark_fits dig items.table) (front e.marks) ≡ true
+  pub patterns : AllByRecursion (λ n. n < items.patterns) (pattern_numbers items.table e)
   pub pairs : map (pair_named items.table (items.id i)) (saved_names (front e.marks)) ≡ own_pairs items i
 
 pub fitting : (dig : Digests) (items : Items) (i : ℕ) (e : EntryView) → LastSaves e.marks → fits dig items i e ≡ true → Fitting dig items i e
 fitting dig items i e last t =
     let print = bytes_eq e.print (dig.text (items.text i)) in
     let names = pointwise bytes_eq (saved_names e.marks) (items.names i ++ final_name ∷ []) in
-    let patterns = list_all (pattern_fits items.table) e.patterns in
+    let patterns = list_all (pattern_fits items) e.patterns in
     let c = and-both (print && names && patterns) (list_all (mark_fits dig items.table) e.marks) t in
     let a = and-both print names (and-both (print && names) patterns c.0).0 in
     let all_names : saved_names e.marks ≡ items.names i ++ final_name ∷ [] = list-same bytes_eq bytes-same (saved_names e.marks) (items.names i ++ final_name ∷ []) a.1 in
@@ -218,6 +229,7 @@ fitting dig items i e last t =
     record {
       names = own;
       marks = front-fits (mark_fits dig items.table) e.marks c.1;
+      patterns = patterns-within items e.patterns (and-both (print && names) patterns c.0).1;
       pairs = ap (map (pair_named items.table (items.id i))) own;
     }
 

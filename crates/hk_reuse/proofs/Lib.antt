@@ -1,10 +1,14 @@
+pub mod Agreeing
 pub mod Builds
 pub mod Central
+pub mod Cutoffs
+pub mod Examples
 pub mod Finishes
 pub mod Histories
 pub mod Images
 pub mod Kepts
 pub mod Laws
+pub mod Listings
 pub mod Lists
 pub mod Logs
 pub mod Over

@@ -8,7 +8,7 @@ use Rattle.hk_chain.specs.Layout.{Shape, pairs, item_of, final_of}
 use Rattle.hk_chain.specs.Snapshots.{Ascending, AreSnapshots}
 use Rattle.hk_fix.specs.Pages.{Pages, Extends, Begins, lacking, all_pages}
 use Rattle.hk_fix.specs.Task.{Task, gives, used, saved, Mark, asked, note, End, done, fault, waits, Run, run, onward, answered}
-use Rattle.hk_fix.specs.Run.{Save, asks_of, saves_of, page_in, snapshot, lacked, AllAbove, Rising, IsRun}
+use Rattle.hk_fix.specs.Run.{Save, asks_of, saves_of, patterns_of, page_in, snapshot, lacked, AllAbove, Rising, IsRun}
 use Rattle.hk_fix.specs.Facts.{is_in}
 use Rattle.hk_fix.specs.Chains.{AllGroups}
 use Rattle.hk_fix.specs.ChainLaws.{saved_pairs}
@@ -28,12 +28,12 @@ use Rattle.hk_reuse.specs.Site.{pair_named, Items, own_pairs, AreItems, Site, it
 use Rattle.hk_reuse.specs.Rebuilt.{replay_of, replay_run}
 use Rattle.hk_reuse.specs.Over.{drop_saved, finish_run, over_entry, over_by, over}
 use Rattle.hk_reuse.proofs.Lists.{all-at, all-append}
-use Rattle.hk_reuse.proofs.Logs.{kept_after, asks-drop, drop-append, kept-same, saved-append, run-without}
+use Rattle.hk_reuse.proofs.Logs.{kept_after, patterns_of-append, patterns-drop, asks-drop, drop-append, kept-same, saved-append, run-without}
 use Rattle.hk_reuse.proofs.Sites.{rising-pairs}
 use Rattle.hk_reuse.proofs.Laws.{attempt-groups, groups-once, groups-within, front-once, Fitting, fitting}
 use Rattle.hk_reuse.proofs.Central.{waits-not}
 use Rattle.hk_chain.specs.declared.fault.Fault.{Fault}
-use Rattle.hk_reuse.proofs.Finishes.{run-notes, used_marks, asks-used, saves-used}
+use Rattle.hk_reuse.proofs.Finishes.{run-notes, used_marks, asks-used, saves-used, patterns-used}
 
 -- over the runs of tasks
 module _ (whole : Task Page) (ns : List ℕ) (k : Pages) where
@@ -63,24 +63,25 @@ pub record Attempted (ps kept : List ℕ) (a : Run Attempt) : Type 0 where
   pub begins : Begins (saved_pairs a.log) ps
   pub all : (x : Page) → a.end ≡ done (through x) → saved_pairs a.log ≡ ps
   pub broken : (h : List ℕ) → a.end ≡ done (broke h) → h ≡ kept_after kept a.log
+  pub unused : patterns_of a.log ≡ []
 
 module _ (dig : Digests) (table : Table) (own : Ident) (x : Page) (k : Pages) where
   abbrev named : List MarkView → List ℕ
   named marks = map (pair_named table own) (saved_names marks)
 
   stops-here : (ps kept : List ℕ) → Attempted ps kept (run {A = Attempt} (gives (broke kept)) k)
-  stops-here ps kept = record { begins = (ps, refl); all = λ y e. cc; broken = λ h e. cc }
+  stops-here ps kept = record { begins = (ps, refl); all = λ y e. cc; broken = λ h e. cc; unused = refl }
 
   attempted-if : (ps kept : List ℕ) (b : Bool) (t : Task Attempt) → Attempted ps kept (run t k) → Attempted ps kept (run (cond b t (gives (broke kept))) k)
   attempted-if ps kept true t h = h
   attempted-if ps kept false t h = stops-here ps kept
 
   attempted-group : (ps kept qs : List ℕ) (f : List Page → Task Attempt) → ((xs : List Page) → Attempted ps kept (run (f xs) k)) → (o : Option (List Page)) → Attempted ps kept (answered qs (lacking k qs) (λ xs. run (f xs) k) o)
-  attempted-group ps kept qs f h None = record { begins = (ps, refl); all = λ y e. cc; broken = λ g e. cc }
-  attempted-group ps kept qs f h (Some xs) = let r : Attempted ps kept (run (f xs) k) = h xs in record { begins = r.begins; all = r.all; broken = r.broken }
+  attempted-group ps kept qs f h None = record { begins = (ps, refl); all = λ y e. cc; broken = λ g e. cc; unused = refl }
+  attempted-group ps kept qs f h (Some xs) = let r : Attempted ps kept (run (f xs) k) = h xs in record { begins = r.begins; all = r.all; broken = r.broken; unused = r.unused }
 
   pub attempted : (marks : List MarkView) (kept : List ℕ) → Attempted (named marks) kept (run (attempt dig table own x kept marks) k)
-  attempted [] kept = record { begins = ([], refl); all = λ y e. refl; broken = λ h e. cc }
+  attempted [] kept = record { begins = ([], refl); all = λ y e. refl; broken = λ h e. cc; unused = refl }
   attempted (recorded rs ∷ marks) kept = attempted-group (named marks) kept (asked_pairs table rs) (λ xs. cond (same_pages dig xs rs) (attempt dig table own x kept marks) (gives (broke kept))) (λ xs. attempted-if (named marks) kept (same_pages dig xs rs) (attempt dig table own x kept marks) (attempted marks kept)) (all_pages k (asked_pairs table rs))
   attempted (stored name page ∷ marks) kept =
       let q = pair_named table own name in
@@ -89,6 +90,7 @@ module _ (dig : Digests) (table : Table) (own : Ident) (x : Page) (k : Pages) wh
         begins = (r.begins.0, ap (λ l. q ∷ l) r.begins.1);
         all = λ y e. ap (λ l. q ∷ l) (r.all y e);
         broken = r.broken;
+        unused = r.unused;
       }
 
 -- pairs that are known
@@ -503,3 +505,35 @@ module _ (dig : Digests) (items : Items) (are : AreItems items) (entries : Entri
         all = λ i k p x lt e less of_i ne. (of i lt).all k p x e less of_i ne;
         within = λ i k lt. (of i lt).within k;
       }
+
+-- ---- used patterns
+
+module _ (limit : ℕ) where
+  abbrev AreBelow : List Mark → Type 0
+  AreBelow log = AllByRecursion (λ n. n < limit) (patterns_of log)
+
+  below-append : (a b : List Mark) → AreBelow a → AreBelow b → AreBelow (a ++ b)
+  below-append a b h g = subst (AllByRecursion (λ n. n < limit)) (sym (patterns_of-append a b)) (all-append (λ n. n < limit) (patterns_of a) (patterns_of b) h g)
+
+  below-follow : (clean : Run Page) (ns : List ℕ) (log : List Mark) (e : End Attempt) → AreBelow clean.log → AllByRecursion (λ n. n < limit) ns → AreBelow log → AreBelow (follow log e (finish_run clean ns)).log
+  below-follow clean ns log (done (through x)) c m h = below-append log (used_marks ns) h (subst (AllByRecursion (λ n. n < limit)) (sym (patterns-used ns)) m)
+  below-follow clean ns log (done (broke kept)) c m h = below-append log (drop_saved kept clean.log) h (subst (AllByRecursion (λ n. n < limit)) (sym (patterns-drop kept clean.log)) c)
+  below-follow clean ns log (fault e) c m h = h
+  below-follow clean ns log (waits ps) c m h = h
+
+module _ (dig : Digests) (items : Items) (entries : Entries) (formed : AreFormed entries) (inner : ℕ → Pages → Run Page) (i : ℕ) (k : Pages) (below : AreBelow items.patterns (inner i k).log) where
+  below-entry : (o : Option EntryView) → entries (items.id i) ≡ o → AreBelow items.patterns (over_by dig items entries inner i o k).log
+  below-entry None h = below
+  below-entry (Some e) h =
+      elim (fits dig items i e) as (λ b. fits dig items i e ≡ b → AreBelow items.patterns (cond b (over_entry dig items entries inner i e k) (inner i k)).log) [
+        | true ↦ λ t.
+            let begun = run (attempt_of dig items i e) k in
+            let unused : patterns_of begun.log ≡ [] = (attempted dig items.table (items.id i) (last_page e.marks) k (front e.marks) []).unused in
+            below-follow items.patterns (inner i k) (pattern_numbers items.table e) begun.log begun.end below
+            (fitting dig items i e (formed (items.id i) e h).last t).patterns (subst (AllByRecursion (λ n. n < items.patterns)) (sym unused) tt)
+        | false ↦ λ t. below
+      ] refl
+
+  -- a replay uses patterns of the plan, where the run that it stands over does
+  pub over-below : AreBelow items.patterns (over dig items entries inner i k).log
+  over-below = below-entry (entries (items.id i)) refl

@@ -219,12 +219,19 @@ module _ (dig : Digests) (old new : Site) (o : IsSite old) (n : IsSite new) (apa
     abbrev PatternFits : ℕ → Type 0
     PatternFits m = (new.deeds.table.pattern (new.deeds.table.number (old.deeds.table.pattern m)) ≡ old.deeds.table.pattern m) × (new.deeds.table.matches (old.deeds.table.pattern m) ≡ old.deeds.table.matches (old.deeds.table.pattern m))
 
-    fits-patterns : (ms : List ℕ) → list_all (pattern_fits new.deeds.table) (map (match_view old.deeds.table) ms) ≡ true → AllByRecursion PatternFits ms
+    fits-pattern : (m : ℕ) → pattern_fits (items_of new) (match_view old.deeds.table m) ≡ true → PatternFits m
+    fits-pattern m t =
+        let by = old.deeds.table.pattern m in
+        let number = new.deeds.table.number by in
+        let w = and-both (nat_lt number new.patterns && bytes_eq (new.deeds.table.pattern number) by) (pointwise (eq_by_cmp ident_cmp) (new.deeds.table.matches by) (old.deeds.table.matches by)) t in
+        let v = and-both (nat_lt number new.patterns) (bytes_eq (new.deeds.table.pattern number) by) w.0 in
+        (bytes-same (new.deeds.table.pattern number) by v.1, list-same (eq_by_cmp ident_cmp) idents-same (new.deeds.table.matches by) (old.deeds.table.matches by) w.1)
+
+    fits-patterns : (ms : List ℕ) → list_all (pattern_fits (items_of new)) (map (match_view old.deeds.table) ms) ≡ true → AllByRecursion PatternFits ms
     fits-patterns [] t = tt
     fits-patterns (m ∷ ms) t =
-        let w = and-both (pattern_fits new.deeds.table (match_view old.deeds.table m)) (list_all (pattern_fits new.deeds.table) (map (match_view old.deeds.table) ms)) t in
-        let v = and-both (bytes_eq (new.deeds.table.pattern (new.deeds.table.number (old.deeds.table.pattern m))) (old.deeds.table.pattern m)) (pointwise (eq_by_cmp ident_cmp) (new.deeds.table.matches (old.deeds.table.pattern m)) (old.deeds.table.matches (old.deeds.table.pattern m))) w.0 in
-        ((bytes-same (new.deeds.table.pattern (new.deeds.table.number (old.deeds.table.pattern m))) (old.deeds.table.pattern m) v.0, list-same (eq_by_cmp ident_cmp) idents-same (new.deeds.table.matches (old.deeds.table.pattern m)) (old.deeds.table.matches (old.deeds.table.pattern m)) v.1), fits-patterns ms w.1)
+        let w = and-both (pattern_fits (items_of new) (match_view old.deeds.table m)) (list_all (pattern_fits (items_of new)) (map (match_view old.deeds.table) ms)) t in
+        (fits-pattern m w.0, fits-patterns ms w.1)
 
     abbrev Listed : ℕ → Type 0
     Listed m = Numbered old.deeds.table m × (new.deeds.table.pattern (new.deeds.table.number (old.deeds.table.pattern m)) ≡ old.deeds.table.pattern m)
@@ -262,7 +269,7 @@ module _ (dig : Digests) (old new : Site) (o : IsSite old) (n : IsSite new) (apa
     names_fit = pointwise bytes_eq (saved_names entry.marks) (new.deeds.names i ++ final_name ∷ [])
 
     abbrev patterns_fit : Bool
-    patterns_fit = list_all (pattern_fits new.deeds.table) entry.patterns
+    patterns_fit = list_all (pattern_fits (items_of new)) entry.patterns
 
     abbrev marks_fit : Bool
     marks_fit = list_all (mark_fits dig new.deeds.table) entry.marks
@@ -374,7 +381,7 @@ module _ (dig : Digests) (old new : Site) (o : IsSite old) (n : IsSite new) (apa
       subst (λ (k : Pages). k p ≡ Some x) (fix-fixed lay (clean_run new) no_seeds n.shape (laws-of new n) (no-seeds lay))
       (round-grows lay (clean_run new) no_seeds n.shape (laws-of new n) (no-seeds lay) (known lay (clean_run new) no_seeds m) (built new) (known-within m) p x e)
 
-  known-same : (m : ℕ) → known lay replaying no_seeds m ≡ known lay (clean_run new) no_seeds m
+  pub known-same : (m : ℕ) → known lay replaying no_seeds m ≡ known lay (clean_run new) no_seeds m
   known-same zero = refl
   known-same (suc m) = ap (round lay replaying no_seeds) (known-same m) ∙ rounds-same (known lay (clean_run new) no_seeds m) (known-within m)
 

@@ -1,5 +1,5 @@
 -- Whether an entry is one of an item as the plan has it.
-use Rattle.std.specs.Prelude.{ℕ, Bool, true, ◌&&◌, [], ◌∷◌, ◌++◌, is_some, bytes_eq}
+use Rattle.std.specs.Prelude.{ℕ, Bool, true, ◌&&◌, [], ◌∷◌, ◌++◌, nat_lt, is_some, bytes_eq}
 use Rattle.std.specs.List.{list_all}
 use Rattle.std.specs.Ordering.{eq_by_cmp}
 use Rattle.std.specs.Cmp.Lexicographic.{pointwise}
@@ -11,8 +11,10 @@ use Rattle.hk_reuse.specs.Entries.{saved_names}
 use Rattle.hk_reuse.specs.Site.{final_name, Items}
 
 -- the pattern is one of the plan's and matches what was recorded
-abbrev pub pattern_fits : Table → MatchView → Bool
-pattern_fits table m = bytes_eq (table.pattern (table.number m.text)) m.text && pointwise (eq_by_cmp ident_cmp) (table.matches m.text) m.matches
+abbrev pub pattern_fits : Items → MatchView → Bool
+pattern_fits items m =
+    nat_lt (items.table.number m.text) items.patterns && bytes_eq (items.table.pattern (items.table.number m.text)) m.text
+    && pointwise (eq_by_cmp ident_cmp) (items.table.matches m.text) m.matches
 
 -- the asked page is a pair of the plan, and its item has the recorded traits
 abbrev pub ask_fits : Digests → Table → AskView → Bool
@@ -27,7 +29,7 @@ module _ (dig : Digests) (items : Items) (i : ℕ) (e : EntryView) where
   abbrev pub is_own : Bool
   is_own =
       bytes_eq e.print (dig.text (items.text i)) && pointwise bytes_eq (saved_names e.marks) (items.names i ++ final_name ∷ [])
-      && list_all (pattern_fits items.table) e.patterns
+      && list_all (pattern_fits items) e.patterns
 
   -- and each asked page may be asked for
   abbrev pub fits : Bool

@@ -45,7 +45,10 @@ module _ (dig : Digests) (items : Items) (k : Pages) where
 abbrev pub is_kept : Digests → Site → Entries → ℕ → Bool
 is_kept dig site entries = kept_among dig (items_of site) (rebuilt dig site entries) entries
 
--- and their pages and facts
+abbrev pub outdated : Digests → Site → Entries → List ℕ
+outdated dig site entries = out_of_date dig (items_of site) (rebuilt dig site entries) entries
+
+-- the pages and facts of the kept items
 abbrev pub seeds_kept : Digests → Site → Entries → Seeds
 seeds_kept dig site entries = kept_seeds (shape_of site) (is_kept dig site entries) (rebuilt dig site entries) (reendings dig site entries)
 

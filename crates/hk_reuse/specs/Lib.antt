@@ -1,5 +1,6 @@
 pub mod Builds
 pub mod Entries
+pub mod Example
 pub mod Fits
 pub mod Histories
 pub mod Image

@@ -1,6 +1,7 @@
 -- The same over the runs of any family of compilers, of which no tasks are known.
-use Rattle.std.specs.Prelude.{ℕ, cond, List, [], ◌∷◌, map, Option, Some, None}
+use Rattle.std.specs.Prelude.{◌≡◌, ℕ, ◌<◌, cond, List, [], ◌∷◌, map, Option, Some, None}
 use Rattle.hk_chain.specs.declared.page.Page.{Page}
+use Rattle.hk_chain.specs.Layout.{Shape}
 use Rattle.hk_fix.specs.Pages.{Pages}
 use Rattle.hk_fix.specs.Task.{Mark, asked, note, used, saved, done, Run, run}
 use Rattle.hk_fix.specs.TaskLaws.{follow}
@@ -35,3 +36,7 @@ module _ (dig : Digests) (items : Items) (entries : Entries) (inner : ℕ → Pa
 
   abbrev pub over : ℕ → Pages → Run Page
   over i k = over_by i (entries (items.id i)) k
+
+-- two families have the same runs of the items of a layout
+abbrev pub SameRuns : Shape → (ℕ → Pages → Run Page) → (ℕ → Pages → Run Page) → Type 0
+SameRuns lay a b = (i : ℕ) (k : Pages) → i < lay.items → a i k ≡ b i k

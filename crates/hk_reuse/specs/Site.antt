@@ -18,10 +18,11 @@ final_name = codes "_final"
 abbrev pub pair_named : Table → Ident → Bytes → ℕ
 pair_named table own name = pair_or table (record { id = own; name = name })
 
--- what entries are held against: of each item its identifier, the names under which it saves on its way, and the text of
--- its fingerprint
+-- what entries are held against: how many patterns a plan has, and of each item its identifier, the names under which it
+-- saves on its way, and the text of its fingerprint
 pub record Items : Type 0 where
   pub table : Table
+  pub patterns : ℕ
   pub id : ℕ → Ident
   pub names : ℕ → List Bytes
   pub text : ℕ → Bytes
@@ -40,10 +41,11 @@ pub record AreItems (items : Items) : Type 0 where
 -- the items of a plan with what their compilers do
 pub record Site : Type 0 where
   pub deeds : Deeds
+  pub patterns : ℕ
   pub text : ℕ → Bytes
 
 abbrev pub items_of : Site → Items
-items_of site = record { table = site.deeds.table; id = site.deeds.id; names = site.deeds.names; text = site.text }
+items_of site = record { table = site.deeds.table; patterns = site.patterns; id = site.deeds.id; names = site.deeds.names; text = site.text }
 
 abbrev pub shape_of : Site → Shape
 shape_of site = site.deeds.table.layout
