@@ -5,3 +5,4 @@ pub mod Noting
 pub mod Passing
 pub mod Phases
 pub mod Polling
+pub mod Bridging

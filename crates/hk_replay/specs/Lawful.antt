@@ -17,18 +17,18 @@ use Rattle.hk_replay.specs.Replays.{same_pages, attempt, over_by, record_at, ove
 
 module _ (x : Page) (k : Pages) where
   stops-here : (ps kept : List ℕ) → Attempted ps kept (run {A = Attempt} (gives (broke kept)) k)
-  stops-here ps kept = record { begins = (ps, refl); all = λ y e. cc; broken = λ h e. cc }
+  stops-here ps kept = record { begins = (ps, refl); all = λ y e. cc; broken = λ h e. cc; unused = refl }
 
   attempted-if : (ps kept : List ℕ) (b : Bool) (t : Task Attempt) → Attempted ps kept (run t k) → Attempted ps kept (run (cond b t (gives (broke kept))) k)
   attempted-if ps kept true t h = h
   attempted-if ps kept false t h = stops-here ps kept
 
   attempted-group : (ps kept qs : List ℕ) (f : List Page → Task Attempt) → ((xs : List Page) → Attempted ps kept (run (f xs) k)) → (o : Option (List Page)) → Attempted ps kept (answered qs (lacking k qs) (λ xs. run (f xs) k) o)
-  attempted-group ps kept qs f h None = record { begins = (ps, refl); all = λ y e. cc; broken = λ g e. cc }
-  attempted-group ps kept qs f h (Some xs) = let r : Attempted ps kept (run (f xs) k) = h xs in record { begins = r.begins; all = r.all; broken = r.broken }
+  attempted-group ps kept qs f h None = record { begins = (ps, refl); all = λ y e. cc; broken = λ g e. cc; unused = refl }
+  attempted-group ps kept qs f h (Some xs) = let r : Attempted ps kept (run (f xs) k) = h xs in record { begins = r.begins; all = r.all; broken = r.broken; unused = r.unused }
 
   attempted : (steps : List Step) (kept : List ℕ) → Attempted (pairs_saved steps) kept (run (attempt x kept steps) k)
-  attempted [] kept = record { begins = ([], refl); all = λ y e. refl; broken = λ h e. cc }
+  attempted [] kept = record { begins = ([], refl); all = λ y e. refl; broken = λ h e. cc; unused = refl }
   attempted (Asked ps ds ∷ steps) kept = attempted-group (pairs_saved steps) kept ps.items (λ xs. cond (same_pages xs ds.items) (attempt x kept steps) (gives (broke kept))) (λ xs. attempted-if (pairs_saved steps) kept (same_pages xs ds.items) (attempt x kept steps) (attempted steps kept)) (all_pages k ps.items)
   attempted (Saved p page ∷ steps) kept =
       let r : Attempted (pairs_saved steps) (p ∷ kept) (run (attempt x (p ∷ kept) steps) k) = attempted steps (p ∷ kept) in
@@ -36,6 +36,7 @@ module _ (x : Page) (k : Pages) where
         begins = (r.begins.0, ap (λ l. p ∷ l) r.begins.1);
         all = λ y e. ap (λ l. p ∷ l) (r.all y e);
         broken = r.broken;
+        unused = r.unused;
       }
 
 module _ (lay : Shape) (x : Page) where

@@ -7,3 +7,7 @@ pub mod RecordsOnce
 pub mod Replaying
 pub mod Replays
 pub mod Turning
+pub mod Numbered
+pub mod Adding
+pub mod Known
+pub mod PlanItems

@@ -2,7 +2,6 @@
 -- recorded digests, and from a break on the inner run.
 use Rattle.std.specs.Prelude.{◌≡◌, ℕ, ◌<◌, Bool, true, false, cond, ◌&&◌, List, [], ◌∷◌, get_or, Option, Some, None, nat_eq, bytes_eq}
 use Rattle.std.specs.List.{AllByRecursion, IsDistinct}
-use Rattle.sha2.specs.Sha256.{sha256}
 use Rattle.hk_base.specs.Bytes.{Bytes}
 use Rattle.hk_chain.specs.declared.page.Page.{Page}
 use Rattle.hk_chain.specs.Layout.{Shape, pairs, final_of}
@@ -10,6 +9,7 @@ use Rattle.hk_chain.specs.Snapshots.{AreSnapshots}
 use Rattle.hk_fix.specs.Pages.{Pages, all_pages}
 use Rattle.hk_fix.specs.Task.{Task, gives, asks, notes, saved, Mark, asked, note, Run, run}
 use Rattle.hk_fix.specs.TaskLaws.{follow}
+use Rattle.hk_store.specs.Traits.{sha_digests}
 use Rattle.hk_reuse.specs.Replay.{Attempt, through, broke}
 use Rattle.hk_reuse.specs.Over.{finish_run}
 use Rattle.hk_replay.specs.declared.record.Step.{Step}
@@ -18,7 +18,7 @@ use Rattle.hk_replay.specs.declared.record.Record.{Record}
 use Rattle.hk_replay.specs.declared.record.Records.{Records}
 
 abbrev pub digest : Page → Bytes
-digest page = sha256 page.body
+digest page = sha_digests.page page
 
 abbrev pub same_pages : List Page → List Bytes → Bool
 same_pages [] [] = true

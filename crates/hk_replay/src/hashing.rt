@@ -4,14 +4,12 @@ ghost use Rattle.hk_replay.specs.Replays.{digest};
 
 use hk_base::NoMemory;
 use hk_chain::Page;
-use sha2::{Digest, Sha256};
+use hk_store::page_digest;
 use std::alloc::Global;
 
 /// The digest of a page. `NoMemory` only for want of memory. Linear in the page.
-pub(crate) fn digest_of(_alloc: Global, page: &Page) -> Result<[u8; 32], NoMemory>
+pub(crate) fn digest_of(alloc: Global, page: &Page) -> Result<[u8; 32], NoMemory>
     ensures { IfOk result (λ d. d ≡ digest page.now) }
 {
-    let mut hasher = Sha256::new();
-    hasher.update(page.body.as_slice());
-    Ok(hasher.finalize())
+    page_digest(alloc, page)
 }

@@ -2,16 +2,21 @@
 //! that run, and from there on another compiler.
 #![tactic(auto)]
 
+mod fitting;
 mod hashing;
 mod inner;
 mod kept;
+mod known;
 mod look;
 mod maker;
 mod merging;
+mod named;
+mod numbering;
 mod record;
 mod replay;
 mod way;
 
 pub use maker::ReplayMaker;
+pub use named::records_are_entries;
 pub use record::{Record, Records, Step};
 pub use replay::{Held, Replay};
