@@ -6,3 +6,4 @@ pub mod Passing
 pub mod Phases
 pub mod Polling
 pub mod Bridging
+pub mod Matching

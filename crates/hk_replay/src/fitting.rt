@@ -1,6 +1,6 @@
 // Whether an entry fits an item of a plan.
-ghost use Rattle.std.specs.Prelude.{◌≡◌, ◌<◌, length, map, bytes_eq, IfOk};
-ghost use Rattle.std.specs.List.{AllByRecursion, list_all, position_from};
+ghost use Rattle.std.specs.Prelude.{◌≡◌, ◌<◌, ◌&&◌, length, map, bytes_eq, IfOk};
+ghost use Rattle.std.specs.List.{AllByRecursion, list_all};
 ghost use Rattle.std.specs.Cmp.Lexicographic.{pointwise};
 ghost use Rattle.std.specs.Ordering.{eq_by_cmp};
 ghost use Rattle.hk_base.specs.Identifier.{ident_cmp};
@@ -37,10 +37,15 @@ pub(crate) fn fits(
     let print = fingerprint_digest(alloc, plan, item)?;
     let own = entry.print.as_slice() == print.as_slice();
     let names = names_fit(alloc, plan.chain(item), &entry.marks)?;
-    Ok(own
-        && names
-        && patterns_fit(plan, known, &entry.patterns)
-        && marks_fit(plan, known, &entry.marks))
+    let patterns = patterns_fit(plan, known, &entry.patterns);
+    let marks = marks_fit(plan, known, &entry.marks);
+    Ok(all_hold(own, names, patterns, marks))
+}
+
+fn all_hold(own: bool, names: bool, patterns: bool, marks: bool) -> bool
+    ensures { result ≡ (own && names && patterns && marks) }
+{
+    own && names && patterns && marks
 }
 
 /// Whether an entry saves under the names of a chain.
@@ -58,10 +63,12 @@ fn page_names_of(alloc: Global, steps: &[Step]) -> Result<Vec<Text>, NoMemory>
     let mut names = Vec::new(alloc);
     for step in steps {
         if let Step::Save(name) = step {
-            names.push(Text::from_slice(alloc, name.as_slice())?)?;
+            let name = Text::from_slice(alloc, name.as_slice())?;
+            names.push(name)?;
         }
     }
-    names.push(Text::from_slice(alloc, b"_final")?)?;
+    let last = Text::from_slice(alloc, b"_final")?;
+    names.push(last)?;
     Ok(names)
 }
 
@@ -102,22 +109,10 @@ fn pattern_fits(plan: &Plan, known: &Known, found: &MatchRecord) -> bool
     requires known { IsKnown plan.now known.now }
     ensures { result ≡ spec.pattern_fits (items_of plan.now) found.now }
 {
-    match place_of(&known.texts, found.text.as_slice()) {
-        Some(place) => are_same(plan, &known.matches[place].items, &found.matches),
+    match known.place(found.text.as_slice()) {
+        Some(place) => are_same(plan, known.matched(place), &found.matches),
         None => false,
     }
-}
-
-/// The first place of a text.
-pub(crate) fn place_of(texts: &[Text], text: &[u8]) -> Option<usize>
-    ensures { result ≡ position_from (λ own. bytes_eq own text.now) 0 texts.now }
-{
-    for place in 0..texts.len() {
-        if texts[place].as_slice() == text {
-            return Some(place);
-        }
-    }
-    None
 }
 
 /// Whether items have these identifiers.
@@ -182,5 +177,5 @@ fn ask_fits(plan: &Plan, known: &Known, ask: &AskRecord) -> bool
     if plan.pair(item, ask.name.as_slice()).is_none() {
         return false;
     }
-    known.traits[item.0 as usize].as_slice() == ask.traits.as_slice()
+    known.has_traits(item, &ask.traits)
 }

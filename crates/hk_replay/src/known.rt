@@ -1,5 +1,6 @@
 // What is known of a plan before entries are held against it.
-ghost use Rattle.std.specs.Prelude.{◌≡◌, ◌<◌, ℕ, [], length, map, get_or, IfOk};
+ghost use Rattle.std.specs.Prelude.{◌≡◌, ◌<◌, ℕ, [], length, map, get_or, bytes_eq, IfOk};
+ghost use Rattle.std.specs.List.{position_from};
 ghost use Rattle.hk_rules.specs.Plan.{matches_in};
 ghost use Rattle.hk_eval.specs.PlanTable.{traits_at, pattern_texts};
 ghost use Rattle.hk_store.specs.Traits.{sha_digests};
@@ -57,6 +58,41 @@ impl Known {
             matches,
         })
     }
+
+    /// The first place of a pattern's text. Linear in the texts.
+    pub(crate) fn place(&self, text: &[u8]) -> Option<usize>
+        ensures { result ≡ position_from (λ own. bytes_eq own text.now) 0 self.now.texts }
+    {
+        place_of(&self.texts, text)
+    }
+
+    /// The items that the pattern at a place matches. Constant.
+    pub(crate) fn matched(&self, place: usize) -> &[ItemNo]
+        requires { place < length self.now.matches }
+        ensures { result.now ≡ get_or self.now.matches place [] }
+    {
+        &self.matches[place].items
+    }
+
+    /// Whether an item's traits have this digest. Constant.
+    pub(crate) fn has_traits(&self, item: ItemNo, digest: &[u8; 32]) -> bool
+        requires { item < length self.now.traits }
+        ensures { result ≡ bytes_eq (get_or self.now.traits item []) digest.now }
+    {
+        self.traits[item.0 as usize].as_slice() == digest.as_slice()
+    }
+}
+
+/// The first place of a text.
+fn place_of(texts: &[Text], text: &[u8]) -> Option<usize>
+    ensures { result ≡ position_from (λ own. bytes_eq own text.now) 0 texts.now }
+{
+    for place in 0..texts.len() {
+        if texts[place].as_slice() == text {
+            return Some(place);
+        }
+    }
+    None
 }
 
 /// The digests of the items' traits, each computed once.

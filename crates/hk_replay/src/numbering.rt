@@ -6,6 +6,7 @@ ghost use Rattle.hk_chain.specs.Layout.{final_of};
 ghost use Rattle.hk_eval.specs.PlanTable.{table_of};
 ghost use Rattle.hk_fix.specs.Deeds.{pair_or as pair_for};
 ghost use Rattle.hk_rules.specs.Plan.{id_at};
+ghost use Rattle.hk_rules.specs.PlanView.{IsPlan};
 ghost use Rattle.hk_store.specs.Marks.{mark_view};
 ghost use Rattle.hk_store.specs.Traits.{sha_digests};
 ghost use Rattle.hk_reuse.specs.Entries.{entries_in, last_page};
@@ -15,7 +16,7 @@ ghost use Rattle.hk_replay.specs.Known.{IsKnown};
 ghost use Rattle.hk_replay.specs.Numbered.{AreNumbered, numbered_by, numbered_entry, numbered_step, record_view, step_view};
 ghost use Rattle.hk_replay.specs.PlanItems.{items_of};
 
-use crate::fitting::{fits, place_of};
+use crate::fitting::fits;
 use crate::known::{Known, pattern_no};
 use crate::record::{Record, Records, Step};
 use hk_base::{Identifier, NoMemory, Shared, Text};
@@ -60,6 +61,7 @@ fn add_record(
     by_item: &mut Vec<Option<Record>>,
 ) -> Result<(), NoMemory>
     requires known { IsKnown plan.now known.now }
+    requires form { IsPlan plan.now }
     requires count { length by_item.old.items ≡ length plan.now.items }
     ensures count { length by_item.new.items ≡ length by_item.old.items }
     ensures added { OnOk result (AddsRecord (items_of plan.now) entry.now by_item.old.items by_item.new.items) }
@@ -207,18 +209,28 @@ fn numbers_of(
 {
     let mut numbers = Vec::with_capacity(alloc, records.len())?;
     for found in records {
-        let place = place_of(&known.texts, found.text.as_slice()).unwrap_or(0);
-        numbers.push(pattern_no(place)?)?;
+        let number = number_of(known, found)?;
+        numbers.push(number)?;
     }
     Ok(numbers)
+}
+
+/// The number of a recorded pattern, and the first where there is none. Linear in the patterns' texts.
+fn number_of(known: &Known, found: &MatchRecord) -> Result<PatternNo, NoMemory>
+    ensures { IfOk result (λ p. p ≡ unwrap_or (position_from (λ own. bytes_eq own found.now.text) 0 known.now.texts) 0) }
+{
+    pattern_no(known.place(found.text.as_slice()).unwrap_or(0))
 }
 
 /// The page of the last mark, which is empty where that isn't a save.
 fn finished_page(alloc: Global, marks: &[MarkRecord]) -> Result<PageRef, NoMemory>
     ensures { IfOk result (λ p. p ≡ last_page (map mark_view marks.now)) }
 {
-    if let Some(MarkRecord::Save(save)) = marks.last() {
-        return save.page.try_clone();
+    let count = marks.len();
+    if count > 0 {
+        if let MarkRecord::Save(save) = &marks[count - 1] {
+            return save.page.try_clone();
+        }
     }
     let body = Text::from_slice(alloc, b"")?;
     let kind = Kind::Text;
