@@ -1,1 +1,5 @@
--- The proofs of the store.
+pub mod Ascents
+pub mod Pairs
+pub mod PatternTexts
+pub mod RecipeTexts
+pub mod Telling

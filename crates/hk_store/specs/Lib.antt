@@ -1,2 +1,9 @@
 pub mod Digests
 pub mod Entry
+pub mod Marks
+pub mod Reached
+pub mod RecipeText
+pub mod Stored
+pub mod StoreText
+pub mod Told
+pub mod Traits

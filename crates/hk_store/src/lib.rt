@@ -1,2 +1,16 @@
 //! What a build leaves for the next one.
 #![tactic(auto)]
+
+mod digests;
+mod entry;
+mod fields;
+mod fingerprints;
+mod laws;
+mod print;
+mod reached;
+
+pub use digests::{page_digest, traits_digest};
+pub use entry::{AskRecord, Entry, MarkRecord, MatchRecord, SaveRecord, Stored};
+pub use fingerprints::{fingerprint, fingerprint_digest};
+pub use laws::{patterns_are_told, recipes_are_told};
+pub use print::print_store;
