@@ -36,7 +36,8 @@ module _ (lay : Shape) (shape : IsShape lay) (seeds : Seeds) where
         k : Pages
         k = known lay b seeds n
 
-        at : (p : ℕ) (c : Bool) → nat_lt p (pairs lay) ≡ c → cond c (cond (seeded seeds (item_of lay p)) (seeds.pages p) (page_of lay (item_of lay p) (a (item_of lay p) k) p)) None ≡ cond c (cond (seeded seeds (item_of lay p)) (seeds.pages p) (page_of lay (item_of lay p) (b (item_of lay p) k) p)) None
+        at : (p : ℕ) (c : Bool) → nat_lt p (pairs lay) ≡ c
+            → cond c (cond (seeded seeds (item_of lay p)) (seeds.pages p) (page_of lay (item_of lay p) (a (item_of lay p) k) p)) None ≡ cond c (cond (seeded seeds (item_of lay p)) (seeds.pages p) (page_of lay (item_of lay p) (b (item_of lay p) k) p)) None
         at p true t = ap (λ r. cond (seeded seeds (item_of lay p)) (seeds.pages p) (page_of lay (item_of lay p) r p)) (same (item_of lay p) k (shape.in_items p (ltb-true p (pairs lay) t)))
         at p false t = refl
 
@@ -101,7 +102,8 @@ module _ (lay : Shape) (shape : IsShape lay) (seeds : Seeds) where
       }
 
 -- replays over families that agree
-pub over-agree : (dig : Digests) (items : Items) (entries : Entries) (a b : ℕ → Pages → Run Page) → SameRuns items.table.layout a b → SameRuns items.table.layout (over dig items entries a) (over dig items entries b)
+pub over-agree : (dig : Digests) (items : Items) (entries : Entries) (a b : ℕ → Pages → Run Page) → SameRuns items.table.layout a b
+    → SameRuns items.table.layout (over dig items entries a) (over dig items entries b)
 over-agree dig items entries a b same i k lt = at (entries (items.id i))
   where
     at : (o : Option EntryView) → over_by dig items entries a i o k ≡ over_by dig items entries b i o k
@@ -141,7 +143,8 @@ module _ (dig : Digests) (old new : Site) (plans : ArePlansApart dig old new) (i
       over-endings dig new plans.now (image dig old) inner same i lt
       ∙ (endings-same dig old new plans.was plans.now plans.apart plans.told i lt ∙ status-agree (shape_of new) plans.now.shape no_seeds (clean_run new) inner back i lt)
 
-  pub clean-history : (h : List Event) → IsComplete (shape_of new) (over dig (items_of new) (image dig old) inner) no_seeds h → IsComplete (shape_of new) inner (seeds_kept dig new (image dig old)) (others (shape_of new) (is_kept dig new (image dig old)) h)
+  pub clean-history : (h : List Event) → IsComplete (shape_of new) (over dig (items_of new) (image dig old) inner) no_seeds h
+      → IsComplete (shape_of new) inner (seeds_kept dig new (image dig old)) (others (shape_of new) (is_kept dig new (image dig old)) h)
   clean-history h all =
       let told : IsComplete (shape_of new) (replay_run dig new (image dig old)) no_seeds h = over-complete dig new plans.now (image dig old) inner same h all in
       complete-agree (shape_of new) plans.now.shape (seeds_kept dig new (image dig old)) (clean_run new) inner back (reverse (others (shape_of new) (is_kept dig new (image dig old)) h))

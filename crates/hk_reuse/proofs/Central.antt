@@ -48,7 +48,8 @@ pub pages-lack : (k : Pages) (ps : List ℕ) (xs : List Page) → all_pages k ps
 pages-lack k [] xs e = refl
 pages-lack k (p ∷ ps) xs e = at (k p) (all_pages k ps) refl e (λ ys w. pages-lack k ps ys w)
   where
-    at : (o : Option Page) (q : Option (List Page)) → all_pages k ps ≡ q → with_page o q ≡ Some xs → ((ys : List Page) → all_pages k ps ≡ Some ys → lacking k ps ≡ []) → cond (is_none o) (p ∷ lacking k ps) (lacking k ps) ≡ []
+    at : (o : Option Page) (q : Option (List Page)) → all_pages k ps ≡ q → with_page o q ≡ Some xs
+        → ((ys : List Page) → all_pages k ps ≡ Some ys → lacking k ps ≡ []) → cond (is_none o) (p ∷ lacking k ps) (lacking k ps) ≡ []
     at None q w h rec = cc
     at (Some x) None w h rec = cc
     at (Some x) (Some ys) w h rec = rec ys w
@@ -64,7 +65,8 @@ module _ {A : Type 0} where
   onward-first [] r = refl
   onward-first (p ∷ ps) r = refl
 
-follows-asked : (s kept pats : List ℕ) (x : Page) (a : Run Attempt) (c : Run Page) (ps : List ℕ) → Follows (ps ++ s) kept pats x a c → Follows s kept pats x (onward (asked_first (firsts s ps) []) a) (onward (asked ps ∷ []) c)
+follows-asked : (s kept pats : List ℕ) (x : Page) (a : Run Attempt) (c : Run Page) (ps : List ℕ) → Follows (ps ++ s) kept pats x a c
+    → Follows s kept pats x (onward (asked_first (firsts s ps) []) a) (onward (asked ps ∷ []) c)
 follows-asked s kept pats x a c ps (goes e f g h) = goes e f (onward-first (firsts s ps) a ∙ ap (asked_first (firsts s ps)) g) h
 follows-asked s kept pats x a c ps (stops l e f g) = stops l e f (onward-first (firsts s ps) a ∙ ap (asked_first (firsts s ps)) g)
 follows-asked s kept pats x a c ps (breaks l m e f g) = breaks (asked ps ∷ l) m e (ap (λ r. asked ps ∷ r) f) (onward-first (firsts s ps) a ∙ ap (asked_first (firsts s ps)) g)
@@ -74,7 +76,8 @@ follows-used s kept pats x a c n (goes e f g h) = goes e f g (ap (λ r. n ∷ r)
 follows-used s kept pats x a c n (stops l e f g) = stops l e f g
 follows-used s kept pats x a c n (breaks l m e f g) = breaks (note (used n) ∷ l) m e (ap (λ r. note (used n) ∷ r) f) g
 
-follows-saved : (s kept pats : List ℕ) (x : Page) (a : Run Attempt) (c : Run Page) (p : ℕ) (y : Page) → Follows s (p ∷ kept) pats x a c → Follows s kept pats x (onward (note (saved p y) ∷ []) a) (onward (note (saved p y) ∷ []) c)
+follows-saved : (s kept pats : List ℕ) (x : Page) (a : Run Attempt) (c : Run Page) (p : ℕ) (y : Page) → Follows s (p ∷ kept) pats x a c
+    → Follows s kept pats x (onward (note (saved p y) ∷ []) a) (onward (note (saved p y) ∷ []) c)
 follows-saved s kept pats x a c p y (goes e f g h) = goes e f (ap (λ r. note (saved p y) ∷ r) g) h
 follows-saved s kept pats x a c p y (stops l e f g) = stops l e f (ap (λ r. note (saved p y) ∷ r) g)
 follows-saved s kept pats x a c p y (breaks l m e f g) = breaks (note (saved p y) ∷ l) m e (ap (λ r. note (saved p y) ∷ r) f) (ap (λ r. note (saved p y) ∷ r) g)
@@ -180,7 +183,8 @@ module _ (dig : Digests) (old new : Table) (own : Ident) (k0 k : Pages) where
     some-page (Some x) (Some xs) ys e = (x, xs, refl, refl, cc)
 
     -- where the pages of a group have the recorded digests, they are the recorded pages
-    same-known : (ps : List ℕ) (xs : List Page) → AllByRecursion Fits ps → AllByRecursion (λ p. is_some (k0 p) ≡ true) ps → all_pages k (map pair_now ps) ≡ Some xs → same_pages dig xs (map (ask_view dig old k0) ps) ≡ true → AllByRecursion Known ps
+    same-known : (ps : List ℕ) (xs : List Page) → AllByRecursion Fits ps → AllByRecursion (λ p. is_some (k0 p) ≡ true) ps
+        → all_pages k (map pair_now ps) ≡ Some xs → same_pages dig xs (map (ask_view dig old k0) ps) ≡ true → AllByRecursion Known ps
     same-known [] xs f s e t = tt
     same-known (p ∷ ps) xs f s e t =
         let w = some-page (k (pair_now p)) (all_pages k (map pair_now ps)) xs e in
@@ -256,7 +260,9 @@ module _ (dig : Digests) (old new : Table) (own : Ident) (k0 k : Pages) where
       abbrev on : Task Attempt
       on = attempt dig new own x held (map (mark_view dig old k0) (trace_of (ps ++ seen) kept (run (was xs) k0).log))
 
-      module _ (first : firsts seen ps ≡ q ∷ qs) (named : firsts s pp ≡ fp) (known : AllByRecursion Known seen) (fits : AllByRecursion Fits (q ∷ qs)) (had : all_pages k0 ps ≡ Some xs) (lack : lacking k fp ≡ lacking k pp) (rest : AllByRecursion Known ps → Rest x ps seen kept held (was xs) (now xs)) where
+      module _ (first : firsts seen ps ≡ q ∷ qs) (named : firsts s pp ≡ fp) (known : AllByRecursion Known seen) (fits : AllByRecursion Fits (q ∷ qs))
+          (had : all_pages k0 ps ≡ Some xs) (lack : lacking k fp ≡ lacking k pp)
+          (rest : AllByRecursion Known ps → Rest x ps seen kept held (was xs) (now xs)) where
         begun : asked fp ∷ [] ≡ lean s (asked pp ∷ [])
         begun = rw named refl
 
@@ -270,7 +276,8 @@ module _ (dig : Digests) (old new : Table) (own : Ident) (k0 k : Pages) where
             let g : Follows s held pats x (onward (asked fp ∷ []) (run on k)) (onward (asked pp ∷ []) (run (now xs) k)) = subst (λ l. Follows s held pats x (onward (asked_first l []) (run on k)) (onward (asked pp ∷ []) (run (now xs) k))) named f in
             subst (λ l. Follows s held pats x (onward (asked fp ∷ []) (run on k)) (onward (asked pp ∷ []) (run (now l) k))) (sym equal) g
 
-        new-at : (o : Option (List Page)) → all_pages k fp ≡ o → (r : Option (List Page)) → all_pages k pp ≡ r → Follows s held pats x (answered fp (lacking k fp) (λ ys. run (cond (same_pages dig ys rs) on (gives (broke held))) k) o) (answered pp (lacking k pp) (λ ys. run (now ys) k) r)
+        new-at : (o : Option (List Page)) → all_pages k fp ≡ o → (r : Option (List Page)) → all_pages k pp ≡ r
+            → Follows s held pats x (answered fp (lacking k fp) (λ ys. run (cond (same_pages dig ys rs) on (gives (broke held))) k) o) (answered pp (lacking k pp) (λ ys. run (now ys) k) r)
         new-at None e None h = stops (lacking k pp) (ap waits lack) refl begun
         new-at None e (Some zs) h = absurd (pages-none k fp e (lack ∙ pages-lack k pp zs h))
         new-at (Some ys) e None h = absurd (pages-none k pp h (sym lack ∙ pages-lack k fp ys e))
@@ -291,7 +298,10 @@ module _ (dig : Digests) (old new : Table) (own : Ident) (k0 k : Pages) where
       abbrev entry_log : List Mark
       entry_log = (run (was xs) k0).log
 
-      by-firsts : (fs : List ℕ) → firsts seen group0 ≡ fs → AllByRecursion Known seen → AllByRecursion Fits fs → AllByRecursion Fits group0 → all_pages k0 group0 ≡ Some xs → IsDistinct nat_eq (map pair_now group0) → (AllByRecursion Known group0 → Rest x group0 seen kept held (was xs) (now xs)) → Follows (map pair_now seen) held (map pattern_now (patterns_of entry_log)) x (tried x held (group_first fs (trace_of (group0 ++ seen) kept entry_log))) (answered (map pair_now group0) (lacking k (map pair_now group0)) (λ ys. run (now ys) k) (all_pages k (map pair_now group0)))
+      by-firsts : (fs : List ℕ) → firsts seen group0 ≡ fs → AllByRecursion Known seen → AllByRecursion Fits fs → AllByRecursion Fits group0
+          → all_pages k0 group0 ≡ Some xs → IsDistinct nat_eq (map pair_now group0)
+          → (AllByRecursion Known group0 → Rest x group0 seen kept held (was xs) (now xs))
+          → Follows (map pair_now seen) held (map pattern_now (patterns_of entry_log)) x (tried x held (group_first fs (trace_of (group0 ++ seen) kept entry_log))) (answered (map pair_now group0) (lacking k (map pair_now group0)) (λ ys. run (now ys) k) (all_pages k (map pair_now group0)))
       by-firsts [] e known ff fits had distinct rest =
           let all : AllByRecursion Known group0 = all-of-firsts Known seen group0 known (subst (AllByRecursion Known) (sym e) tt) in
           ask-old x seen kept held group0 xs was now (pages-now group0 all ∙ had) (firsts-map pair_now Fits same-number seen group0 (fits-of seen known) fits ∙ ap (map pair_now) e) (rest all)
@@ -311,7 +321,9 @@ module _ (dig : Digests) (old new : Table) (own : Ident) (k0 k : Pages) where
       FollowsAs r now seen kept held = Follows (map pair_now seen) held (map pattern_now (patterns_of r.log)) x (tried x held (trace_of seen kept r.log)) (run now k)
 
       -- what is ready after a group
-      ready-after : (p : ℕ) (qs seen kept : List ℕ) (xs : List Page) (was now : List Page → Task Page) → AllByRecursion Known (p ∷ qs) → Ready x (onward (asked (p ∷ qs) ∷ []) (run (was xs) k0)) (asks (map pair_now (p ∷ qs)) now) seen kept → Ready x (run (was xs) k0) (now xs) ((p ∷ qs) ++ seen) kept
+      ready-after : (p : ℕ) (qs seen kept : List ℕ) (xs : List Page) (was now : List Page → Task Page) → AllByRecursion Known (p ∷ qs)
+          → Ready x (onward (asked (p ∷ qs) ∷ []) (run (was xs) k0)) (asks (map pair_now (p ∷ qs)) now) seen kept
+          → Ready x (run (was xs) k0) (now xs) ((p ∷ qs) ++ seen) kept
       ready-after p qs seen kept xs was now all ready =
           record {
             ends = ready.ends;
@@ -325,7 +337,9 @@ module _ (dig : Digests) (old new : Table) (own : Ident) (k0 k : Pages) where
           }
 
       -- with the keys that the pairs have
-      ask-some : (p : ℕ) (qs seen kept held : List ℕ) (xs : List Page) → all_pages k0 (p ∷ qs) ≡ Some xs → Ready x (onward (asked (p ∷ qs) ∷ []) (run (was_by (map old.key (p ∷ qs)) xs) k0)) (ask_for (resolve new (map old.key (p ∷ qs))) (now_by (map old.key (p ∷ qs)))) seen kept → FollowsAs (onward (asked (p ∷ qs) ∷ []) (run (was_by (map old.key (p ∷ qs)) xs) k0)) (ask_for (resolve new (map old.key (p ∷ qs))) (now_by (map old.key (p ∷ qs)))) seen kept held
+      ask-some : (p : ℕ) (qs seen kept held : List ℕ) (xs : List Page) → all_pages k0 (p ∷ qs) ≡ Some xs
+          → Ready x (onward (asked (p ∷ qs) ∷ []) (run (was_by (map old.key (p ∷ qs)) xs) k0)) (ask_for (resolve new (map old.key (p ∷ qs))) (now_by (map old.key (p ∷ qs)))) seen kept
+          → FollowsAs (onward (asked (p ∷ qs) ∷ []) (run (was_by (map old.key (p ∷ qs)) xs) k0)) (ask_for (resolve new (map old.key (p ∷ qs))) (now_by (map old.key (p ∷ qs)))) seen kept held
       ask-some p qs seen kept held xs had ready =
           let keys = map old.key (p ∷ qs) in
           let r = onward (asked (p ∷ qs) ∷ []) (run (was_by keys xs) k0) in
@@ -339,11 +353,18 @@ module _ (dig : Digests) (old new : Table) (own : Ident) (k0 k : Pages) where
           (λ all. subst (λ n. Rest x (p ∷ qs) seen kept held (was_by keys xs) n) (sym same)
           (rec (answers xs (traits_of old keys)) ((p ∷ qs) ++ seen) kept held (subst (λ n. Ready x (run (was_by keys xs) k0) n ((p ∷ qs) ++ seen) kept) same (ready-after p qs seen kept xs (was_by keys) (now_by keys) all there)))))
 
-      ask-pages : (p : ℕ) (qs seen kept held : List ℕ) → let keys = map old.key (p ∷ qs) in (o : Option (List Page)) → all_pages k0 (p ∷ qs) ≡ o → Ready x (answered (p ∷ qs) (lacking k0 (p ∷ qs)) (λ xs. run (was_by keys xs) k0) o) (ask_for (resolve new keys) (now_by keys)) seen kept → FollowsAs (answered (p ∷ qs) (lacking k0 (p ∷ qs)) (λ xs. run (was_by keys xs) k0) o) (ask_for (resolve new keys) (now_by keys)) seen kept held
+      abbrev answered_was : ℕ → List ℕ → Option (List Page) → Run Page
+      answered_was p qs o = answered (p ∷ qs) (lacking k0 (p ∷ qs)) (λ xs. run (was_by (map old.key (p ∷ qs)) xs) k0) o
+
+      ask-pages : (p : ℕ) (qs seen kept held : List ℕ) → let keys = map old.key (p ∷ qs) in (o : Option (List Page)) → all_pages k0 (p ∷ qs) ≡ o
+          → Ready x (answered_was p qs o) (ask_for (resolve new keys) (now_by keys)) seen kept
+          → FollowsAs (answered_was p qs o) (ask_for (resolve new keys) (now_by keys)) seen kept held
       ask-pages p qs seen kept held None e ready = absurd (waits-not (lacking k0 (p ∷ qs)) x ready.ends)
       ask-pages p qs seen kept held (Some xs) e ready = ask-some p qs seen kept held xs e ready
 
-      ask-resolved : (keys : List Key) (seen kept held : List ℕ) (r : Result (List ℕ) Fault) → resolve old keys ≡ r → Ready x (run (ask_for r (was_by keys)) k0) (interpret new own (asking keys f)) seen kept → FollowsAs (run (ask_for r (was_by keys)) k0) (interpret new own (asking keys f)) seen kept held
+      ask-resolved : (keys : List Key) (seen kept held : List ℕ) (r : Result (List ℕ) Fault) → resolve old keys ≡ r
+          → Ready x (run (ask_for r (was_by keys)) k0) (interpret new own (asking keys f)) seen kept
+          → FollowsAs (run (ask_for r (was_by keys)) k0) (interpret new own (asking keys f)) seen kept held
       ask-resolved keys seen kept held (Err e) h ready = absurd (fault-not e x ready.ends)
       ask-resolved keys seen kept held (Ok []) h ready =
           let none : [] ≡ keys = resolve-keys old old_laws keys [] h in
@@ -356,7 +377,9 @@ module _ (dig : Digests) (old new : Table) (own : Ident) (k0 k : Pages) where
           (λ w. ask-pages p qs seen kept held (all_pages k0 (p ∷ qs)) refl w) ready
 
     -- a match, which is the same in both plans
-    match-goes : (x : Page) (by : Bytes) (f : List Ident → Deed Page) → ((ids : List Ident) → IsNamed old own (f ids) → IsNamed new own (f ids) → Goes x (interpret old own (f ids)) (interpret new own (f ids))) → IsNamed old own (matching by f) → IsNamed new own (matching by f) → Goes x (interpret old own (matching by f)) (interpret new own (matching by f))
+    match-goes : (x : Page) (by : Bytes) (f : List Ident → Deed Page)
+        → ((ids : List Ident) → IsNamed old own (f ids) → IsNamed new own (f ids) → Goes x (interpret old own (f ids)) (interpret new own (f ids)))
+        → IsNamed old own (matching by f) → IsNamed new own (matching by f) → Goes x (interpret old own (matching by f)) (interpret new own (matching by f))
     match-goes x by f rec n m seen kept held ready =
         let named : old.pattern (old.number by) ≡ by = n.0 in
         let same : new.matches by ≡ old.matches by = subst (λ b. new.matches b ≡ old.matches b) named ready.patterns.0 in
@@ -374,8 +397,10 @@ module _ (dig : Digests) (old new : Table) (own : Ident) (k0 k : Pages) where
           patterns = ready.patterns.1;
         } in
         let go : Follows (map pair_now seen) held pats x a (run (interpret new own (f (old.matches by))) k) = rec (old.matches by) n.1 (subst (λ ids. IsNamed new own (f ids)) same m.1) seen kept held next in
-        let on : Follows (map pair_now seen) held (new.number by ∷ pats) x a (onward (note (used (new.number by)) ∷ []) (run (interpret new own (f (old.matches by))) k)) = follows-used (map pair_now seen) held pats x a (run (interpret new own (f (old.matches by))) k) (new.number by) go in
-        let at : Follows (map pair_now seen) held (new.number by ∷ pats) x a (onward (note (used (new.number by)) ∷ []) (run (interpret new own (f (new.matches by))) k)) = subst (λ ids. Follows (map pair_now seen) held (new.number by ∷ pats) x a (onward (note (used (new.number by)) ∷ []) (run (interpret new own (f ids)) k))) (sym same) on in
+        let on : Follows (map pair_now seen) held (new.number by ∷ pats) x a (onward (note (used (new.number by)) ∷ []) (run (interpret new own (f (old.matches by))) k)) =
+        follows-used (map pair_now seen) held pats x a (run (interpret new own (f (old.matches by))) k) (new.number by) go in
+        let at : Follows (map pair_now seen) held (new.number by ∷ pats) x a (onward (note (used (new.number by)) ∷ []) (run (interpret new own (f (new.matches by))) k)) =
+        subst (λ ids. Follows (map pair_now seen) held (new.number by ∷ pats) x a (onward (note (used (new.number by)) ∷ []) (run (interpret new own (f ids)) k))) (sym same) on in
         subst (λ b. Follows (map pair_now seen) held (new.number b ∷ pats) x a (onward (note (used (new.number by)) ∷ []) (run (interpret new own (f (new.matches by))) k))) (sym named) at
 
     -- a save, under the same name in both
@@ -390,7 +415,9 @@ module _ (dig : Digests) (old new : Table) (own : Ident) (k0 k : Pages) where
       abbrev own_key : Key
       own_key = record { id = own; name = name }
 
-      save-some : (seen kept held : List ℕ) (p q : ℕ) → old.pair own_key ≡ Some p → new.pair own_key ≡ Some q → Ready x (run (notes (saved p y) was) k0) (notes (saved q y) now) seen kept → Follows (map pair_now seen) held (map pattern_now (patterns_of (run was k0).log)) x (tried x held (trace_of seen kept (note (saved p y) ∷ (run was k0).log))) (run (notes (saved q y) now) k)
+      save-some : (seen kept held : List ℕ) (p q : ℕ) → old.pair own_key ≡ Some p → new.pair own_key ≡ Some q
+          → Ready x (run (notes (saved p y) was) k0) (notes (saved q y) now) seen kept
+          → Follows (map pair_now seen) held (map pattern_now (patterns_of (run was k0).log)) x (tried x held (trace_of seen kept (note (saved p y) ∷ (run was k0).log))) (run (notes (saved q y) now) k)
       save-some seen kept held p q e h ready =
           let key : old.key p ≡ own_key = old_laws.keyed own_key p e in
           let num : pair_or new (record { id = own; name = (old.key p).name }) ≡ q = rw (key, h) refl in

@@ -53,7 +53,8 @@ module _ (dig : Digests) (table : Table) (k : Pages) where
       at (Some x) (Some xs) e = ap (λ b. bytes_eq (dig.page x) v.page && b) e
 
   module _ (own : Ident) (x : Page) where
-    through-if : (kept : List ℕ) (marks : List MarkView) (b : Bool) → is_through (run (cond b (attempt dig table own x kept marks) (gives (broke kept))) k).end ≡ (b && is_through (run (attempt dig table own x kept marks) k).end)
+    through-if : (kept : List ℕ) (marks : List MarkView) (b : Bool)
+        → is_through (run (cond b (attempt dig table own x kept marks) (gives (broke kept))) k).end ≡ (b && is_through (run (attempt dig table own x kept marks) k).end)
     through-if kept marks true = refl
     through-if kept marks false = refl
 
@@ -63,7 +64,8 @@ module _ (dig : Digests) (table : Table) (k : Pages) where
     through-group kept marks views ps None = refl
     through-group kept marks views ps (Some xs) = through-if kept marks (same_pages dig xs views)
 
-    goes-through : (marks : List MarkView) (kept : List ℕ) → (list_all (mark_fits dig table) marks && is_through (run (attempt dig table own x kept marks) k).end) ≡ list_all (is_unchanged dig table k) (asked_views marks)
+    goes-through : (marks : List MarkView) (kept : List ℕ)
+        → (list_all (mark_fits dig table) marks && is_through (run (attempt dig table own x kept marks) k).end) ≡ list_all (is_unchanged dig table k) (asked_views marks)
     goes-through [] kept = refl
     goes-through (recorded views ∷ marks) kept =
         let fit = list_all (ask_fits dig table) views in
@@ -89,7 +91,8 @@ front-fits dig table (recorded views ∷ []) h = absurd h
 front-fits dig table (stored name page ∷ []) h = refl
 front-fits dig table (m ∷ n ∷ marks) h = ap (λ b. mark_fits dig table m && b) (front-fits dig table (n ∷ marks) h)
 
-pub kept-if_unchanged : (dig : Digests) (items : Items) (entries : Entries) (k : Pages) (i : ℕ) (e : EntryView) → i < items.table.layout.items → entries (items.id i) ≡ Some e → LastSaves e.marks → is_own dig items i e ≡ true → kept_among dig items k entries i ≡ asks_unchanged dig items.table k e
+pub kept-if_unchanged : (dig : Digests) (items : Items) (entries : Entries) (k : Pages) (i : ℕ) (e : EntryView) → i < items.table.layout.items
+    → entries (items.id i) ≡ Some e → LastSaves e.marks → is_own dig items i e ≡ true → kept_among dig items k entries i ≡ asks_unchanged dig items.table k e
 kept-if_unchanged dig items entries k i e lt had last own =
     rw (lt-ltb i items.table.layout.items lt, had, own, front-fits dig items.table e.marks last, front-asks e.marks last)
     (goes-through dig items.table k (items.id i) (last_page e.marks) (front e.marks) [])

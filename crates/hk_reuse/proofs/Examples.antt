@@ -1,6 +1,6 @@
 -- The two items are a site, whatever the text of the first, and two of these sites are apart.
-use Rattle.std.proofs.Common.{◌≡◌, ◌≢◌, refl, sym, ap, ◌∙◌, subst, arith, ℕ, zero, suc, ◌<◌, ◌≤◌, Bool, true, false, cond, List, [], ◌∷◌, Some, None, is_some, bytes_eq}
-use Rattle.std.specs.List.{IsDistinct}
+use Rattle.std.proofs.Common.{◌≡◌, ◌≢◌, refl, sym, ap, ◌∙◌, subst, arith, ℕ, zero, suc, ◌<◌, ◌≤◌, Bool, true, false, cond, List, [], ◌∷◌, Option, Some, None, is_some, bytes_eq}
+use Rattle.std.specs.List.{AllByRecursion, IsDistinct}
 use Rattle.std.specs.Ordering.{eq_by_cmp}
 use Rattle.hk_base.specs.Bytes.{Bytes}
 use Rattle.hk_base.specs.Identifier.{Ident, ident_cmp}
@@ -11,14 +11,17 @@ use Rattle.hk_chain.specs.declared.page.Kind.{Kind}
 use Rattle.hk_chain.specs.declared.page.Kind.TheVariants as kinds
 use Rattle.hk_chain.specs.Layout.{IsShape, item_of, final_of}
 use Rattle.hk_chain.specs.Snapshots.{AreSnapshots}
-use Rattle.hk_fix.specs.Deed.{IsProper}
+use Rattle.hk_fix.specs.Deed.{answers, interpret, IsProper}
+use Rattle.hk_fix.specs.Pages.{Pages, lacking, with_page}
+use Rattle.hk_fix.specs.Run.{patterns_of}
+use Rattle.hk_fix.specs.Task.{run, answered}
 use Rattle.hk_fix.specs.Deeds.{on_way}
 use Rattle.hk_fix.specs.Fix.{fix, status, waiting}
-use Rattle.hk_fix.specs.Table.{Key, IsTable}
+use Rattle.hk_fix.specs.Table.{Key, no_traits, IsTable}
 use Rattle.hk_reuse.specs.Example.{loaded, first_id, second_id, id_at, find, pair_of, table, text_page, deed_at, text_at, site, kind_code, digests, page_text, same_page_text, other_page_text, entries}
 use Rattle.hk_reuse.specs.Kept.{outdated}
 use Rattle.hk_reuse.specs.Rebuilt.{rebuilt, reendings, ArePlansApart}
-use Rattle.hk_reuse.specs.Site.{final_name, IsSite}
+use Rattle.hk_reuse.specs.Site.{final_name, clean_run, IsSite, UsesItsOwn}
 
 shape : IsShape table.layout
 shape =
@@ -163,6 +166,30 @@ are-apart a b =
       };
       told = λ i j lt less one e. ap (deed_at i) e ∙ ap (λ n. deed_at n (text_at b j)) (same-number i j lt less one);
     }
+
+pub uses-own : (first : Bytes) → UsesItsOwn (site first)
+uses-own first = record { finals = λ i lt. finals i lt; patterns = λ i k lt. patterns i k lt first }
+  where
+    finals : (i : ℕ) → i < 2 → table.key (final_of table.layout i) ≡ record { id = id_at i; name = final_name }
+    finals zero lt = refl
+    finals (suc zero) lt = refl
+    finals (suc (suc i)) lt = absurd (omega (arith, lt))
+
+    patterns : (i : ℕ) (k : Pages) → i < 2 → (text : Bytes) → AllByRecursion (λ n. n < 0) (patterns_of (clean_run (site text) i k).log)
+    patterns zero k lt [] = at (k 1)
+      where
+        at : (o : Option Page)
+            → AllByRecursion (λ n. n < 0) (patterns_of (answered (1 ∷ []) (lacking k (1 ∷ [])) (λ xs. run (interpret table first_id (loaded (answers xs (no_traits ∷ [])))) k) (with_page o (Some []))).log)
+        at None = tt
+        at (Some x) = tt
+    patterns zero k lt (byte ∷ body) = tt
+    patterns (suc zero) k lt text = at (k 0)
+      where
+        at : (o : Option Page)
+            → AllByRecursion (λ n. n < 0) (patterns_of (answered (0 ∷ []) (lacking k (0 ∷ [])) (λ xs. run (interpret table second_id (loaded (answers xs (no_traits ∷ [])))) k) (with_page o (Some []))).log)
+        at None = tt
+        at (Some x) = tt
+    patterns (suc (suc i)) k lt text = absurd (omega (arith, lt))
 
 -- built again as it was, nothing is out of date
 pub nothing-changed : outdated digests (site page_text) entries ≡ []

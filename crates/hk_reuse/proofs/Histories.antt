@@ -117,7 +117,10 @@ or-some : (a b : Option Page) → is_some a ≡ true → or_else a b ≡ a
 or-some None b e = cc
 or-some (Some x) b e = refl
 
-module _ (lay : Shape) (slow fast : ℕ → Pages → Run Page) (shape : IsShape lay) (slow_laws : IsRun lay slow) (fast_laws : IsRun lay fast) (same : (i : ℕ) → i < lay.items → (k : Pages) → Extends k (fix lay slow no_seeds) → SameRun lay i (fast i k) (slow i k)) (fixes : fix lay fast no_seeds ≡ fix lay slow no_seeds) (kept : ℕ → Bool) (finishes : (i : ℕ) → kept i ≡ true → (i < lay.items) × (is_finished (status lay slow no_seeds i) ≡ true)) where
+module _ (lay : Shape) (slow fast : ℕ → Pages → Run Page) (shape : IsShape lay) (slow_laws : IsRun lay slow) (fast_laws : IsRun lay fast)
+    (same : (i : ℕ) → i < lay.items → (k : Pages) → Extends k (fix lay slow no_seeds) → SameRun lay i (fast i k) (slow i k))
+    (fixes : fix lay fast no_seeds ≡ fix lay slow no_seeds) (kept : ℕ → Bool)
+    (finishes : (i : ℕ) → kept i ≡ true → (i < lay.items) × (is_finished (status lay slow no_seeds i) ≡ true)) where
   abbrev F : Pages
   F = fix lay slow no_seeds
 
@@ -216,7 +219,8 @@ module _ (lay : Shape) (slow fast : ℕ → Pages → Run Page) (shape : IsShape
   same-snapshot : (i : ℕ) → i < lay.items → (k : Pages) → Extends k F → (p : ℕ) → snapshot (fast i k) p ≡ snapshot (slow i k) p
   same-snapshot i lt k w p = ap (λ ss. page_in ss p) (same i lt k w).saves
 
-  adds-kept : (h : List Event) (q : ℕ) (o : Option Page) → q < pairs lay → kept (item_of lay q) ≡ true → (p : ℕ) → or_else (S.pages p) (or_else (before h p) (cond (nat_eq q p) o None)) ≡ or_else (S.pages p) (before h p)
+  adds-kept : (h : List Event) (q : ℕ) (o : Option Page) → q < pairs lay → kept (item_of lay q) ≡ true → (p : ℕ)
+      → or_else (S.pages p) (or_else (before h p) (cond (nat_eq q p) o None)) ≡ or_else (S.pages p) (before h p)
   adds-kept h q o lt t p =
       elim (nat_eq q p) as (λ b. nat_eq q p ≡ b → or_else (S.pages p) (or_else (before h p) (cond b o None)) ≡ or_else (S.pages p) (before h p)) [
         | true ↦ λ e.
@@ -226,13 +230,16 @@ module _ (lay : Shape) (slow fast : ℕ → Pages → Run Page) (shape : IsShape
         | false ↦ λ e. ap (or_else (S.pages p)) (or-none (before h p))
       ] refl
 
-  adds-free : (h : List Event) → Told h → (q : ℕ) (o r : Option Page) → o ≡ r → (p : ℕ) → or_else (after_others h p) (cond (nat_eq q p) o None) ≡ or_else (S.pages p) (or_else (before h p) (cond (nat_eq q p) r None))
+  adds-free : (h : List Event) → Told h → (q : ℕ) (o r : Option Page) → o ≡ r → (p : ℕ)
+      → or_else (after_others h p) (cond (nat_eq q p) o None) ≡ or_else (S.pages p) (or_else (before h p) (cond (nat_eq q p) r None))
   adds-free h t q o r e p = ap (λ z. or_else z (cond (nat_eq q p) o None)) (t p) ∙ (or-assoc (S.pages p) (before h p) (cond (nat_eq q p) o None) ∙ ap (λ z. or_else (S.pages p) (or_else (before h p) (cond (nat_eq q p) z None))) e)
 
-  saved-now : (h : List Event) → LawfulNewest lay fast no_seeds h → Told h → (i : ℕ) → i < lay.items → (q : ℕ) (x : Page) → snapshot (fast i (before h)) q ≡ Some x → snapshot (slow i (after_others h)) q ≡ Some x
+  saved-now : (h : List Event) → LawfulNewest lay fast no_seeds h → Told h → (i : ℕ) → i < lay.items → (q : ℕ) (x : Page)
+      → snapshot (fast i (before h)) q ≡ Some x → snapshot (slow i (after_others h)) q ≡ Some x
   saved-now h l t i lt q x e = saves-grow lay slow no_seeds shape slow_laws (no-seeds lay) i (before h) (after_others h) q x lt (told-more h l t) (sym (same-snapshot i lt (before h) (before-within h l) q) ∙ e)
 
-  saved-same : (h : List Event) → LawfulNewest lay fast no_seeds h → Told h → (i : ℕ) → i < lay.items → (q : ℕ) → is_some (snapshot (fast i (before h)) q) ≡ true → snapshot (slow i (after_others h)) q ≡ snapshot (fast i (before h)) q
+  saved-same : (h : List Event) → LawfulNewest lay fast no_seeds h → Told h → (i : ℕ) → i < lay.items → (q : ℕ)
+      → is_some (snapshot (fast i (before h)) q) ≡ true → snapshot (slow i (after_others h)) q ≡ snapshot (fast i (before h)) q
   saved-same h l t i lt q s = let v : (x : Page) × (snapshot (fast i (before h)) q ≡ Some x) = the_some (snapshot (fast i (before h)) q) s in saved-now h l t i lt q v.0 v.1 ∙ sym v.1
 
   -- an item that has ended under what was known before has the same run under what is known now
@@ -272,7 +279,8 @@ module _ (lay : Shape) (slow fast : ℕ → Pages → Run Page) (shape : IsShape
   own-pair i lt k p s = let v : (x : Page) × (snapshot (slow i k) p ≡ Some x) = the_some (snapshot (slow i k) p) s in (slow_laws.own i k p v.0 lt v.1).1
 
   -- a save before one that was known already was saved already
-  earlier-saved : (h : List Event) → LawfulNewest lay fast no_seeds h → (i : ℕ) → i < lay.items → (p q : ℕ) → is_some (snapshot (fast i (before h)) p) ≡ true → is_some (snapshot (slow i (after_others h)) q) ≡ true → q < p → is_some (snapshot (fast i (before h)) q) ≡ true
+  earlier-saved : (h : List Event) → LawfulNewest lay fast no_seeds h → (i : ℕ) → i < lay.items → (p q : ℕ) → is_some (snapshot (fast i (before h)) p) ≡ true
+      → is_some (snapshot (slow i (after_others h)) q) ≡ true → q < p → is_some (snapshot (fast i (before h)) q) ≡ true
   earlier-saved h l i lt p q a b less =
       let w : Begins (slow i (before h)).log (slow i (after_others h)).log = slow_laws.grows i (before h) (after_others h) lt (told-more h l (told h l)) in
       let ss = saves_of (slow i (before h)).log in
@@ -282,7 +290,8 @@ module _ (lay : Shape) (slow fast : ℕ → Pages → Run Page) (shape : IsShape
       let has : is_some (page_in (ss ++ saves_of w.0) q) ≡ true = subst (λ l. is_some (page_in l q) ≡ true) all b in
       ap is_some (same-snapshot i lt (before h) (before-within h l) q) ∙ earlier-in ss (saves_of w.0) p q r had has less
 
-  may-end : (test : End Page → Bool) → ((e : End Page) → test e ≡ true → is_wait e ≡ false) → (h : List Event) → LawfulNewest lay fast no_seeds h → (i : ℕ) → kept i ≡ false → MayEnd lay fast no_seeds h i test → MayEnd lay slow S (others lay kept h) i test
+  may-end : (test : End Page → Bool) → ((e : End Page) → test e ≡ true → is_wait e ≡ false) → (h : List Event) → LawfulNewest lay fast no_seeds h → (i : ℕ)
+      → kept i ≡ false → MayEnd lay fast no_seeds h i test → MayEnd lay slow S (others lay kept h) i test
   may-end test still h l i f m =
       let w : is_wait (fast i (before h)).end ≡ false = still (fast i (before h)).end m.ends in
       let r : slow i (after_others h) ≡ slow i (before h) = ended-same h l (told h l) i m.in_range w in

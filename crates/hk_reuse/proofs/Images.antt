@@ -38,6 +38,11 @@ unfolding IsDistinct
 distinct-back [] b d = d
 distinct-back (p ∷ a) b d = distinct-back a b d.1
 
+pub last-saves : (views : List MarkView) (view : MarkView) → IsSave view → LastSaves (views ++ view ∷ [])
+last-saves [] view s = s
+last-saves (a ∷ []) view s = s
+last-saves (a ∷ b ∷ views) view s = last-saves (b ∷ views) view s
+
 module _ (dig : Digests) (items : Items) (laws : IsTable items.table) (k : Pages) where
   abbrev IsPair : ℕ → Type 0
   IsPair p = p < pairs items.table.layout
@@ -45,7 +50,7 @@ module _ (dig : Digests) (items : Items) (laws : IsTable items.table) (k : Pages
   abbrev view_of : TraceMark → MarkView
   view_of = mark_view dig items.table k
 
-  keys-differ : (ps : List ℕ) → AllByRecursion IsPair ps → IsDistinct nat_eq ps → IsDistinct same_key (map (λ v. v.key) (map (ask_view dig items.table k) ps))
+  pub keys-differ : (ps : List ℕ) → AllByRecursion IsPair ps → IsDistinct nat_eq ps → IsDistinct same_key (map (λ v. v.key) (map (ask_view dig items.table k) ps))
   unfolding IsDistinct
   keys-differ [] h d = tt
   keys-differ (p ∷ ps) h d = (each ps h.1 d.0, keys-differ ps h.1 d.1)
@@ -58,7 +63,8 @@ module _ (dig : Digests) (items : Items) (laws : IsTable items.table) (k : Pages
           let one : p ≡ q = cc in
           clash (nat_eq p q) f (eq-eqb p q one)
 
-      each : (qs : List ℕ) → AllByRecursion IsPair qs → AllByRecursion (λ q. nat_eq p q ≡ false) qs → AllByRecursion (λ key. same_key (items.table.key p) key ≡ false) (map (λ v. v.key) (map (ask_view dig items.table k) qs))
+      each : (qs : List ℕ) → AllByRecursion IsPair qs → AllByRecursion (λ q. nat_eq p q ≡ false) qs
+          → AllByRecursion (λ key. same_key (items.table.key p) key ≡ false) (map (λ v. v.key) (map (ask_view dig items.table k) qs))
       each [] a b = tt
       each (q ∷ qs) a b = (other q a.0 b.0 (same_key (items.table.key p) (items.table.key q)) refl, each qs a.1 b.1)
 
@@ -68,11 +74,6 @@ module _ (dig : Digests) (items : Items) (laws : IsTable items.table) (k : Pages
   views-once (group ps ∷ trace) h d =
       (keys-differ ps (all-front IsPair ps (asked_in trace) h) (distinct-front ps (asked_in trace) d), views-once trace (all-back IsPair ps (asked_in trace) h) (distinct-back ps (asked_in trace) d))
   views-once (save p ∷ trace) h d = views-once trace h d
-
-  last-saves : (views : List MarkView) (view : MarkView) → IsSave view → LastSaves (views ++ view ∷ [])
-  last-saves [] view s = s
-  last-saves (a ∷ []) view s = s
-  last-saves (a ∷ b ∷ views) view s = last-saves (b ∷ views) view s
 
   entry-formed : (i : ℕ) (f : FactsView) (ends : ℕ → Ending) → AreFacts items.table.layout i f → IsFormed (entry_with dig items ends k i f)
   entry-formed i f ends are =

@@ -103,7 +103,8 @@ module _ (dig : Digests) (table : Table) (laws : IsTable table) where
       let w = and-both (ask_fits dig table r) (list_all (ask_fits dig table) rs) t in
       (each rs d.0 w.1 w.0, once-asked rs d.1 w.1)
     where
-      each : (qs : List AskView) → AllByRecursion (λ k. same_key r.key k ≡ false) (map (λ q. q.key) qs) → list_all (ask_fits dig table) qs ≡ true → ask_fits dig table r ≡ true → AllByRecursion (λ p. nat_eq (pair_or table r.key) p ≡ false) (asked_pairs table qs)
+      each : (qs : List AskView) → AllByRecursion (λ k. same_key r.key k ≡ false) (map (λ q. q.key) qs) → list_all (ask_fits dig table) qs ≡ true
+          → ask_fits dig table r ≡ true → AllByRecursion (λ p. nat_eq (pair_or table r.key) p ≡ false) (asked_pairs table qs)
       each [] a v f = tt
       each (q ∷ qs) a v f =
           let u = and-both (ask_fits dig table q) (list_all (ask_fits dig table) qs) v in
@@ -126,7 +127,8 @@ module _ {A : Type 0} where
   noted-saves ps (n ∷ ns) t h = noted-saves ps ns t h
 
   -- without the first pairs, the rest is saved
-  without-saves : (kept first rest : List ℕ) (t : Task A) → Saves (first ++ rest) t → AllByRecursion (λ p. is_in kept p ≡ true) first → AllByRecursion (λ p. is_in kept p ≡ false) rest → Saves rest (without kept t)
+  without-saves : (kept first rest : List ℕ) (t : Task A) → Saves (first ++ rest) t → AllByRecursion (λ p. is_in kept p ≡ true) first
+      → AllByRecursion (λ p. is_in kept p ≡ false) rest → Saves rest (without kept t)
   without-saves kept [] rest (gives y) h a b = h
   without-saves kept (p ∷ first) rest (gives y) h a b = absurd h
   without-saves kept first rest (fails e) h a b = tt
@@ -160,7 +162,8 @@ module _ (dig : Digests) (table : Table) (own : Ident) (x : Page) (whole : Task 
   saves-if ps true s t g h = g
   saves-if ps false s t g h = h
 
-  attempt-saves : (marks : List MarkView) (first kept : List ℕ) → Saves (first ++ pairs_saved marks) whole → Ascending (first ++ pairs_saved marks) → SameMembers kept first → Saves (pairs_saved marks) (attempt dig table own x kept marks ▷ finish whole ns)
+  attempt-saves : (marks : List MarkView) (first kept : List ℕ) → Saves (first ++ pairs_saved marks) whole → Ascending (first ++ pairs_saved marks)
+      → SameMembers kept first → Saves (pairs_saved marks) (attempt dig table own x kept marks ▷ finish whole ns)
   attempt-saves [] first kept h r s = noted-saves [] ns (gives x) tt
   attempt-saves (recorded rs ∷ marks) first kept h r s = λ xs.
       saves-if (pairs_saved marks) (same_pages dig xs rs) (attempt dig table own x kept marks) (gives (broke kept)) (attempt-saves marks first kept h r s)

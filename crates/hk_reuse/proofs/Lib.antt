@@ -14,3 +14,4 @@ pub mod Logs
 pub mod Over
 pub mod Sites
 pub mod Tests
+pub mod Unchanged

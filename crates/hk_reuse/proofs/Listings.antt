@@ -28,7 +28,7 @@ upto-in (suc n) q lt =
       | inr f ↦ in-left (upto n) (n ∷ []) q (upto-in n q (elim (decide (nat_lt q n)) [ inl l ↦ ltb-true q n l | inr g ↦ clash (nat_eq q n) f (eq-eqb q n (omega (arith, ltb-false q n g))) ]))
     ]
 
-upto-below : (m n : ℕ) → m ≤ n → AllByRecursion (λ q. q < n) (upto m)
+pub upto-below : (m n : ℕ) → m ≤ n → AllByRecursion (λ q. q < n) (upto m)
 upto-below zero n le = tt
 upto-below (suc m) n le = all-append (λ q. q < n) (upto m) (m ∷ []) (upto-below m n (omega arith)) (omega arith, tt)
 
@@ -58,7 +58,8 @@ module _ (dig : Digests) (items : Items) (are : AreItems items) (ends : ℕ → 
     list-at [] h = refl
     list-at (i ∷ is) h = at (entry_of i) refl (list-at is h.1)
       where
-        first : (e : EntryView) → entry_of i ≡ Some e → found_in is ≡ cond (is_in is j) (entry_of j) None → (b : Bool) → eq_by_cmp ident_cmp id (items.id i) ≡ b → cond b (Some e) (found_in is) ≡ cond (nat_eq j i || is_in is j) (entry_of j) None
+        first : (e : EntryView) → entry_of i ≡ Some e → found_in is ≡ cond (is_in is j) (entry_of j) None → (b : Bool)
+            → eq_by_cmp ident_cmp id (items.id i) ≡ b → cond b (Some e) (found_in is) ≡ cond (nat_eq j i || is_in is j) (entry_of j) None
         first e w rec true t =
             let both : Some i ≡ Some j = sym (tied-found i h.0 t) ∙ found in
             let one : i ≡ j = cc in
@@ -71,7 +72,8 @@ module _ (dig : Digests) (items : Items) (are : AreItems items) (ends : ℕ → 
                 clash (eq_by_cmp ident_cmp id (items.id i)) t (ap (eq_by_cmp ident_cmp id) own ∙ id-same id)
             other false u = refl
 
-        at : (o : Option EntryView) → entry_of i ≡ o → found_in is ≡ cond (is_in is j) (entry_of j) None → entries_in (cons_option o (filter_map entry_of is)) id ≡ cond (nat_eq j i || is_in is j) (entry_of j) None
+        at : (o : Option EntryView) → entry_of i ≡ o → found_in is ≡ cond (is_in is j) (entry_of j) None
+            → entries_in (cons_option o (filter_map entry_of is)) id ≡ cond (nat_eq j i || is_in is j) (entry_of j) None
         at None w rec = rec ∙ skip (nat_eq j i) refl
           where
             skip : (c : Bool) → nat_eq j i ≡ c → cond (is_in is j) (entry_of j) None ≡ cond (c || is_in is j) (entry_of j) None

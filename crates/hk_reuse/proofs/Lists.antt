@@ -115,6 +115,7 @@ lacking-firsts k s (x ∷ xs) d h =
       | false ↦ λ e. rw (lacking-firsts k (x ∷ s) xs d.1 (more xs d.0 h.1)) refl
     ] refl
   where
-    more : (ys : List ℕ) → AllByRecursion (λ y. nat_eq x y ≡ false) ys → AllByRecursion (λ y. is_in s y ≡ true → is_none (k y) ≡ false) ys → AllByRecursion (λ y. is_in (x ∷ s) y ≡ true → is_none (k y) ≡ false) ys
+    more : (ys : List ℕ) → AllByRecursion (λ y. nat_eq x y ≡ false) ys → AllByRecursion (λ y. is_in s y ≡ true → is_none (k y) ≡ false) ys
+        → AllByRecursion (λ y. is_in (x ∷ s) y ≡ true → is_none (k y) ≡ false) ys
     more [] a b = tt
     more (y ∷ ys) a b = (λ e. elim (or_cases (nat_eq y x) (is_in s y) e) [ inl t ↦ clash (nat_eq x y) a.0 (eq-eqb x y (sym (eqb-true y x t))) | inr t ↦ b.0 t ], more ys a.1 b.1)

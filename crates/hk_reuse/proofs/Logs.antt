@@ -45,7 +45,8 @@ saved-append a b = rw (saves_of-append a b) (map-append (λ s. s.pair) (saves_of
 
 -- lean logs
 module _ {A : Type 0} (f : List Mark → A) where
-  pub group-cases : (ps : List ℕ) (rest : List Mark) (g : List ℕ → List Mark → A) → f rest ≡ g [] rest → ((q : ℕ) (qs : List ℕ) → f (asked (q ∷ qs) ∷ rest) ≡ g (q ∷ qs) rest) → f (asked_first ps rest) ≡ g ps rest
+  pub group-cases : (ps : List ℕ) (rest : List Mark) (g : List ℕ → List Mark → A) → f rest ≡ g [] rest
+      → ((q : ℕ) (qs : List ℕ) → f (asked (q ∷ qs) ∷ rest) ≡ g (q ∷ qs) rest) → f (asked_first ps rest) ≡ g ps rest
   group-cases [] rest g a b = a
   group-cases (p ∷ ps) rest g a b = b p ps
 
@@ -203,7 +204,10 @@ kept-same kept (note (used m) ∷ l) n = kept-same kept l n
 kept-same kept (note (saved p x) ∷ l) n = kept-same (p ∷ kept) l n ∙ same-swap p (saved_pairs l) kept n
 
 module _ {A : Type 0} where
-  without-at : (kept ps : List ℕ) (k : Pages) (h : List Page → Task A) → ((xs : List Page) → run (without kept (h xs)) k ≡ record { log = drop_saved kept (run (h xs) k).log; end = (run (h xs) k).end }) → (o : Option (List Page)) → answered ps (lacking k ps) (λ xs. run (without kept (h xs)) k) o ≡ record { log = drop_saved kept (answered ps (lacking k ps) (λ xs. run (h xs) k) o).log; end = (answered ps (lacking k ps) (λ xs. run (h xs) k) o).end }
+  without-at : (kept ps : List ℕ) (k : Pages) (h : List Page → Task A)
+      → ((xs : List Page) → run (without kept (h xs)) k ≡ record { log = drop_saved kept (run (h xs) k).log; end = (run (h xs) k).end })
+      → (o : Option (List Page))
+      → answered ps (lacking k ps) (λ xs. run (without kept (h xs)) k) o ≡ record { log = drop_saved kept (answered ps (lacking k ps) (λ xs. run (h xs) k) o).log; end = (answered ps (lacking k ps) (λ xs. run (h xs) k) o).end }
   without-at kept ps k h rec None = refl
   without-at kept ps k h rec (Some xs) = ap (onward (asked ps ∷ [])) (rec xs)
 

@@ -76,13 +76,17 @@ module _ (dig : Digests) (table : Table) (own : Ident) (x : Page) (k : Pages) wh
   attempted-if ps kept true t h = h
   attempted-if ps kept false t h = stops-here ps kept
 
-  attempted-group : (ps kept qs : List ℕ) (f : List Page → Task Attempt) → ((xs : List Page) → Attempted ps kept (run (f xs) k)) → (o : Option (List Page)) → Attempted ps kept (answered qs (lacking k qs) (λ xs. run (f xs) k) o)
+  attempted-group : (ps kept qs : List ℕ) (f : List Page → Task Attempt) → ((xs : List Page) → Attempted ps kept (run (f xs) k)) → (o : Option (List Page))
+      → Attempted ps kept (answered qs (lacking k qs) (λ xs. run (f xs) k) o)
   attempted-group ps kept qs f h None = record { begins = (ps, refl); all = λ y e. cc; broken = λ g e. cc; unused = refl }
   attempted-group ps kept qs f h (Some xs) = let r : Attempted ps kept (run (f xs) k) = h xs in record { begins = r.begins; all = r.all; broken = r.broken; unused = r.unused }
 
   pub attempted : (marks : List MarkView) (kept : List ℕ) → Attempted (named marks) kept (run (attempt dig table own x kept marks) k)
   attempted [] kept = record { begins = ([], refl); all = λ y e. refl; broken = λ h e. cc; unused = refl }
-  attempted (recorded rs ∷ marks) kept = attempted-group (named marks) kept (asked_pairs table rs) (λ xs. cond (same_pages dig xs rs) (attempt dig table own x kept marks) (gives (broke kept))) (λ xs. attempted-if (named marks) kept (same_pages dig xs rs) (attempt dig table own x kept marks) (attempted marks kept)) (all_pages k (asked_pairs table rs))
+  attempted (recorded rs ∷ marks) kept =
+      let rest = attempt dig table own x kept marks in
+      attempted-group (named marks) kept (asked_pairs table rs) (λ xs. cond (same_pages dig xs rs) rest (gives (broke kept)))
+      (λ xs. attempted-if (named marks) kept (same_pages dig xs rs) rest (attempted marks kept)) (all_pages k (asked_pairs table rs))
   attempted (stored name page ∷ marks) kept =
       let q = pair_named table own name in
       let r : Attempted (named marks) (q ∷ kept) (run (attempt dig table own x (q ∷ kept) marks) k) = attempted marks (q ∷ kept) in
@@ -98,7 +102,8 @@ known-all : (k m : Pages) → Extends k m → (ps : List ℕ) → lacking k ps �
 known-all k m ext [] e = tt
 known-all k m ext (p ∷ ps) e = at (k p) refl e (λ w. known-all k m ext ps w)
   where
-    at : (o : Option Page) → k p ≡ o → cond (is_none o) (p ∷ lacking k ps) (lacking k ps) ≡ [] → (lacking k ps ≡ [] → AllByRecursion (λ q. m q ≡ k q) ps) → (m p ≡ k p) × AllByRecursion (λ q. m q ≡ k q) ps
+    at : (o : Option Page) → k p ≡ o → cond (is_none o) (p ∷ lacking k ps) (lacking k ps) ≡ [] → (lacking k ps ≡ [] → AllByRecursion (λ q. m q ≡ k q) ps)
+        → (m p ≡ k p) × AllByRecursion (λ q. m q ≡ k q) ps
     at None w e f = cc
     at (Some x) w e f = (ext p x w ∙ sym w, f e)
 
@@ -141,7 +146,9 @@ page-dropped kept (asked ps ∷ l) p = page-dropped kept l p
 page-dropped kept (note (used n) ∷ l) p = page-dropped kept l p
 page-dropped kept (note (saved q x) ∷ l) p = at (page-dropped kept l p) (is_in kept q) refl (nat_eq q p) refl
   where
-    at : page_in (saves_of (drop_saved kept l)) p ≡ cond (is_in kept p) None (page_in (saves_of l) p) → (b : Bool) → is_in kept q ≡ b → (c : Bool) → nat_eq q p ≡ c → page_in (saves_of (cond b (drop_saved kept l) (note (saved q x) ∷ drop_saved kept l))) p ≡ cond (is_in kept p) None (cond c (Some x) (page_in (saves_of l) p))
+    at : page_in (saves_of (drop_saved kept l)) p ≡ cond (is_in kept p) None (page_in (saves_of l) p) → (b : Bool) → is_in kept q ≡ b → (c : Bool)
+        → nat_eq q p ≡ c
+        → page_in (saves_of (cond b (drop_saved kept l) (note (saved q x) ∷ drop_saved kept l))) p ≡ cond (is_in kept p) None (cond c (Some x) (page_in (saves_of l) p))
     at rec true u true w = let i : is_in kept p ≡ true = sym (ap (is_in kept) (eqb-true q p w)) ∙ u in rec ∙ rw i refl
     at rec true u false w = rec
     at rec false u true w = let i : is_in kept p ≡ false = sym (ap (is_in kept) (eqb-true q p w)) ∙ u in rw (w, i) refl
@@ -242,7 +249,9 @@ fault-waits A f l h = cc
 then-begins : (x y z : List Mark) → Begins x y → Begins y z → Begins x z
 then-begins x y z u v = (u.0 ++ v.0, v.1 ∙ (ap (λ l. l ++ v.0) u.1 ∙ append_assoc x u.0 v.0))
 
-module _ (lay : Shape) (inner : ℕ → Pages → Run Page) (laws : IsRun lay inner) (i : ℕ) (lt : i < lay.items) (on : List ℕ) (snaps : AreSnapshots lay i on) (t : Task Attempt) (ns : List ℕ) (once : AllGroups (IsDistinct nat_eq) t) (inside : AllGroups (AllByRecursion (λ p. p < pairs lay)) t) (went : (k : Pages) → Attempted on [] (run t k)) where
+module _ (lay : Shape) (inner : ℕ → Pages → Run Page) (laws : IsRun lay inner) (i : ℕ) (lt : i < lay.items) (on : List ℕ)
+    (snaps : AreSnapshots lay i on) (t : Task Attempt) (ns : List ℕ) (once : AllGroups (IsDistinct nat_eq) t)
+    (inside : AllGroups (AllByRecursion (λ p. p < pairs lay)) t) (went : (k : Pages) → Attempted on [] (run t k)) where
   abbrev pub a : Pages → Run Attempt
   a k = run t k
 
@@ -337,8 +346,11 @@ module _ (lay : Shape) (inner : ℕ → Pages → Run Page) (laws : IsRun lay in
   grows-by k m ext (waits ps) w = then-begins (a k).log (a m).log (g m).log (run_grows t k m ext) (begins-follow m (a m).end)
   grows-by k m ext (done (through x)) w = ([], ap (λ r. (follow r.log r.end (after m)).log) (settles k m ext (through x) w) ∙ (ap (λ e. (by_end k m e).log) w ∙ sym (append-nil ((a k).log ++ used_marks ns))))
   grows-by k m ext (done (broke kept)) w =
-      let b : Begins (inner i k).log (inner i m).log = laws.grows i k m lt ext in
-      (drop_saved kept b.0, ap (λ r. (follow r.log r.end (after m)).log) (settles k m ext (broke kept) w) ∙ (ap (λ e. (by_end k m e).log) w ∙ (ap (λ q. (a k).log ++ drop_saved kept q) b.1 ∙ (ap (λ q. (a k).log ++ q) (drop-append kept (inner i k).log b.0) ∙ sym (append_assoc (a k).log (drop_saved kept (inner i k).log) (drop_saved kept b.0))))))
+      let b : Begins (inner i k).log (inner i m).log = laws.grows i k m lt ext in (
+        drop_saved kept b.0,
+        ap (λ r. (follow r.log r.end (after m)).log) (settles k m ext (broke kept) w)
+            ∙ (ap (λ e. (by_end k m e).log) w ∙ (ap (λ q. (a k).log ++ drop_saved kept q) b.1 ∙ (ap (λ q. (a k).log ++ q) (drop-append kept (inner i k).log b.0) ∙ sym (append_assoc (a k).log (drop_saved kept (inner i k).log) (drop_saved kept b.0))))),
+      )
 
   -- saves
   abbrev IsOwn : ℕ → Type 0
@@ -394,7 +406,8 @@ module _ (lay : Shape) (inner : ℕ → Pages → Run Page) (laws : IsRun lay in
       subst Ascending (sym (saved-append (a k).log (drop_saved kept (inner i k).log)))
       (ascends-on (saved_pairs (a k).log) (saved_pairs (drop_saved kept (inner i k).log)) (ascends-a k) (ascending-dropped kept (inner i k).log (rising-pairs (saves_of (inner i k).log) (laws.rising i k lt))) (later-in k kept w))
 
-  all-by : (k : Pages) (p : ℕ) (x : Page) (e : End Attempt) → (a k).end ≡ e → (by_end k k e).end ≡ done x → p < pairs lay → item_of lay p ≡ i → p ≢ final_of lay i → is_some (page_in (saves_of (by_end k k e).log) p) ≡ true
+  all-by : (k : Pages) (p : ℕ) (x : Page) (e : End Attempt) → (a k).end ≡ e → (by_end k k e).end ≡ done x → p < pairs lay → item_of lay p ≡ i
+      → p ≢ final_of lay i → is_some (page_in (saves_of (by_end k k e).log) p) ≡ true
   all-by k p x (fault f) w h less of ne = cc
   all-by k p x (waits ps) w h less of ne = cc
   all-by k p x (done (through y)) w h less of ne =
@@ -407,7 +420,8 @@ module _ (lay : Shape) (inner : ℕ → Pages → Run Page) (laws : IsRun lay in
       ∙ else-has (page_in (saves_of (a k).log) p) (page_in (saves_of (drop_saved kept r.log)) p)
       (either (is_in kept p) refl had)
     where
-      either : (b : Bool) → is_in kept p ≡ b → is_some (page_in (saves_of (inner i k).log) p) ≡ true → (is_some (page_in (saves_of (a k).log) p) ≡ true) ⊎ (is_some (page_in (saves_of (drop_saved kept (inner i k).log)) p) ≡ true)
+      either : (b : Bool) → is_in kept p ≡ b → is_some (page_in (saves_of (inner i k).log) p) ≡ true
+          → (is_some (page_in (saves_of (a k).log) p) ≡ true) ⊎ (is_some (page_in (saves_of (drop_saved kept (inner i k).log)) p) ≡ true)
       either true u v = inl (has-page (saves_of (a k).log) p (sym (kept-is k kept w p) ∙ u))
       either false u v = inr (ap is_some (page-dropped kept (inner i k).log p ∙ rw u refl) ∙ v)
 
@@ -448,7 +462,8 @@ module _ (lay : Shape) (inner : ℕ → Pages → Run Page) (laws : IsRun lay in
         within = λ k. laws.within i k lt;
       }
 
-  module _ (on : List ℕ) (snaps : AreSnapshots lay i on) (t : Task Attempt) (ns : List ℕ) (once : AllGroups (IsDistinct nat_eq) t) (inside : AllGroups (AllByRecursion (λ p. p < pairs lay)) t) (went : (k : Pages) → Attempted on [] (run t k)) where
+  module _ (on : List ℕ) (snaps : AreSnapshots lay i on) (t : Task Attempt) (ns : List ℕ) (once : AllGroups (IsDistinct nat_eq) t)
+      (inside : AllGroups (AllByRecursion (λ p. p < pairs lay)) t) (went : (k : Pages) → Attempted on [] (run t k)) where
     pub attempt-laws : IsRunOf lay i (g lay inner laws i lt on snaps t ns once inside went)
     attempt-laws =
         record {
@@ -515,7 +530,8 @@ module _ (limit : ℕ) where
   below-append : (a b : List Mark) → AreBelow a → AreBelow b → AreBelow (a ++ b)
   below-append a b h g = subst (AllByRecursion (λ n. n < limit)) (sym (patterns_of-append a b)) (all-append (λ n. n < limit) (patterns_of a) (patterns_of b) h g)
 
-  below-follow : (clean : Run Page) (ns : List ℕ) (log : List Mark) (e : End Attempt) → AreBelow clean.log → AllByRecursion (λ n. n < limit) ns → AreBelow log → AreBelow (follow log e (finish_run clean ns)).log
+  below-follow : (clean : Run Page) (ns : List ℕ) (log : List Mark) (e : End Attempt) → AreBelow clean.log → AllByRecursion (λ n. n < limit) ns → AreBelow log
+      → AreBelow (follow log e (finish_run clean ns)).log
   below-follow clean ns log (done (through x)) c m h = below-append log (used_marks ns) h (subst (AllByRecursion (λ n. n < limit)) (sym (patterns-used ns)) m)
   below-follow clean ns log (done (broke kept)) c m h = below-append log (drop_saved kept clean.log) h (subst (AllByRecursion (λ n. n < limit)) (sym (patterns-drop kept clean.log)) c)
   below-follow clean ns log (fault e) c m h = h

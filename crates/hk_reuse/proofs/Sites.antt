@@ -57,7 +57,8 @@ each-in (s ∷ ss) h = (rw (eq-eqb s.pair s.pair refl) refl, later ss h.0 (each-
     other : (q : ℕ) → s.pair < q → nat_eq s.pair q ≡ false
     other q lt = grind (arith, lt)
 
-    later : (ts : List Save) → AllAbove s.pair ts → AllByRecursion (λ r. page_in ss r.pair ≡ Some r.page) ts → AllByRecursion (λ r. cond (nat_eq s.pair r.pair) (Some s.page) (page_in ss r.pair) ≡ Some r.page) ts
+    later : (ts : List Save) → AllAbove s.pair ts → AllByRecursion (λ r. page_in ss r.pair ≡ Some r.page) ts
+        → AllByRecursion (λ r. cond (nat_eq s.pair r.pair) (Some s.page) (page_in ss r.pair) ≡ Some r.page) ts
     later [] u v = tt
     later (r ∷ ts) u v = (rw (other r.pair u.0) v.0, later ts u.1 v.1)
 
@@ -128,7 +129,11 @@ final-built site h i lt x e =
     closed lay (clean_run site) no_seeds h.shape laws (no-seeds lay) (final_of lay i) x (h.shape.in_pairs i lt) refl (rw (h.shape.own_final i lt) page)
 
 final-unsaved : (site : Site) → IsSite site → (i : ℕ) → i < (shape_of site).items → (k : Pages) → is_in (saved_pairs (clean_run site i k).log ++ []) (final_of (shape_of site) i) ≡ false
-final-unsaved site h i lt k = go (saves_of (clean_run site i k).log) (saves-weaker (λ s. page_in (saves_of (clean_run site i k).log) s.pair ≡ Some s.page) (λ s. s.pair ≢ final_of (shape_of site) i) (λ s e. ((laws-of site h).own i k s.pair s.page lt e).2) (saves_of (clean_run site i k).log) (each-in (saves_of (clean_run site i k).log) ((laws-of site h).rising i k lt)))
+final-unsaved site h i lt k =
+    let saves = saves_of (clean_run site i k).log in
+    let laws = laws-of site h in
+    go saves
+    (saves-weaker (λ s. page_in saves s.pair ≡ Some s.page) (λ s. s.pair ≢ final_of (shape_of site) i) (λ s e. (laws.own i k s.pair s.page lt e).2) saves (each-in saves (laws.rising i k lt)))
   where
     other : (p q : ℕ) → p ≢ q → nat_eq q p ≡ false
     other p q ne = at (nat_eq q p) refl
@@ -142,22 +147,26 @@ final-unsaved site h i lt k = go (saves_of (clean_run site i k).log) (saves-weak
     go (s ∷ ss) a = rw (other s.pair (final_of (shape_of site) i) a.0, go ss a.1) refl
 
 -- the facts of an item that is done, without its finished page
-pub trace-done : (site : Site) → IsSite site → (i : ℕ) → i < (shape_of site).items → (k : Pages) (x : Page) → trace_of [] [] ((clean_run site i k).log ++ note (saved (final_of (shape_of site) i) x) ∷ []) ≡ trace_of [] [] (clean_run site i k).log ++ save (final_of (shape_of site) i) ∷ []
+pub trace-done : (site : Site) → IsSite site → (i : ℕ) → i < (shape_of site).items → (k : Pages) (x : Page)
+    → trace_of [] [] ((clean_run site i k).log ++ note (saved (final_of (shape_of site) i) x) ∷ []) ≡ trace_of [] [] (clean_run site i k).log ++ save (final_of (shape_of site) i) ∷ []
 trace-done site h i lt k x = trace-append [] [] (clean_run site i k).log (note (saved (final_of (shape_of site) i) x) ∷ []) ∙ rw (final-unsaved site h i lt k) refl
 
 pub patterns-done : (l : List Mark) (p : ℕ) (x : Page) → patterns_of (l ++ note (saved p x) ∷ []) ≡ patterns_of l
 patterns-done l p x = patterns_of-append l (note (saved p x) ∷ []) ∙ append-nil (patterns_of l)
 
 -- the patterns of a deed have the numbers that the plan gives their texts
-abbrev Numbered : Table → ℕ → Type 0
+abbrev pub Numbered : Table → ℕ → Type 0
 Numbered table n = table.number (table.pattern n) ≡ n
 
 module _ {A : Type 0} (table : Table) (own : Ident) (k : Pages) where
-  numbered-pages : (ps : List ℕ) (f : List Page → Task A) → ((xs : List Page) → AllByRecursion (Numbered table) (patterns_of (run (f xs) k).log)) → (o : Option (List Page)) → AllByRecursion (Numbered table) (patterns_of (answered ps (lacking k ps) (λ xs. run (f xs) k) o).log)
+  numbered-pages : (ps : List ℕ) (f : List Page → Task A) → ((xs : List Page) → AllByRecursion (Numbered table) (patterns_of (run (f xs) k).log))
+      → (o : Option (List Page)) → AllByRecursion (Numbered table) (patterns_of (answered ps (lacking k ps) (λ xs. run (f xs) k) o).log)
   numbered-pages ps f rec None = tt
   numbered-pages ps f rec (Some xs) = rec xs
 
-  numbered-asked : (r : Result (List ℕ) Fault) (f : List Page → Task A) → ((xs : List Page) → AllByRecursion (Numbered table) (patterns_of (run (f xs) k).log)) → AllByRecursion (Numbered table) (patterns_of (run (ask_for r f) k).log)
+  numbered-asked : (r : Result (List ℕ) Fault) (f : List Page → Task A)
+      → ((xs : List Page) → AllByRecursion (Numbered table) (patterns_of (run (f xs) k).log))
+      → AllByRecursion (Numbered table) (patterns_of (run (ask_for r f) k).log)
   numbered-asked (Err e) f rec = tt
   numbered-asked (Ok []) f rec = rec []
   numbered-asked (Ok (p ∷ ps)) f rec = numbered-pages (p ∷ ps) f rec (all_pages k (p ∷ ps))
@@ -173,11 +182,15 @@ module _ {A : Type 0} (table : Table) (own : Ident) (k : Pages) where
   numbered (matching by f) h = (ap table.number h.0, numbered (f (table.matches by)) h.1)
   numbered (saving name x d) h = numbered-saved (table.pair (record { id = own; name = name })) x (interpret table own d) (numbered d h.1)
 
+pub numbered-run : (site : Site) → IsSite site → (i : ℕ) → i < (shape_of site).items → (k : Pages) → AllByRecursion (Numbered site.deeds.table) (patterns_of (clean_run site i k).log)
+numbered-run site s i lt k = numbered site.deeds.table (site.deeds.id i) k (site.deeds.deed i) (deeds-named site.deeds s.proper i lt)
+
 same-run : (lay : Shape) (i : ℕ) (c : Run Page) → SameRun lay i c c
 same-run lay i c = record { saves = refl; ends = refl; facts = λ x e. refl }
 
 module _ (dig : Digests) (old new : Site) (o : IsSite old) (n : IsSite new) (apart : TellApart dig old new) (tell : TextsTell old new) where
-  module _ (i : ℕ) (lt : i < (shape_of new).items) (k : Pages) (within : Extends k (built new)) (j : ℕ) (old_lt : j < (shape_of old).items) (one : old.deeds.id j ≡ new.deeds.id i) (x : Page) (ends : (clean_run old j (built old)).end ≡ done x) where
+  module _ (i : ℕ) (lt : i < (shape_of new).items) (k : Pages) (within : Extends k (built new)) (j : ℕ) (old_lt : j < (shape_of old).items)
+      (one : old.deeds.id j ≡ new.deeds.id i) (x : Page) (ends : (clean_run old j (built old)).end ≡ done x) where
     abbrev log0 : List Mark
     log0 = (clean_run old j (built old)).log
 
@@ -202,14 +215,21 @@ module _ (dig : Digests) (old new : Site) (o : IsSite old) (n : IsSite new) (apa
     pages-apart : PagesApart dig old.deeds.table new.deeds.table (new.deeds.id i) (built old) k
     pages-apart p y z f a b t = apart.pages p (here p) y z (sym (n.proper.table.keyed (old.deeds.table.key p) (here p) f.here)) a (within (here p) z b) t
 
-    fits-asks : (ps : List ℕ) → AllByRecursion (λ p. old.deeds.table.pair (old.deeds.table.key p) ≡ Some p) ps → list_all (ask_fits dig new.deeds.table) (map (ask_view dig old.deeds.table (built old)) ps) ≡ true → AllByRecursion FitsHere ps
+    fits-asks : (ps : List ℕ) → AllByRecursion (λ p. old.deeds.table.pair (old.deeds.table.key p) ≡ Some p) ps
+        → list_all (ask_fits dig new.deeds.table) (map (ask_view dig old.deeds.table (built old)) ps) ≡ true → AllByRecursion FitsHere ps
     fits-asks [] h t = tt
     fits-asks (p ∷ ps) h t =
-        let w = and-both (ask_fits dig new.deeds.table (ask_view dig old.deeds.table (built old) p)) (list_all (ask_fits dig new.deeds.table) (map (ask_view dig old.deeds.table (built old)) ps)) t in
-        let v = and-both (is_some (new.deeds.table.pair (old.deeds.table.key p))) (bytes_eq (dig.traits (new.deeds.table.traits (old.deeds.table.key p).id)) (dig.traits (old.deeds.table.traits (old.deeds.table.key p).id))) w.0 in
-        (record { there = h.0; here = some-or (new.deeds.table.pair (old.deeds.table.key p)) v.0; traits = apart.traits (old.deeds.table.key p).id (o.proper.table.item (old.deeds.table.key p) p h.0) (let w : (q : ℕ) × (new.deeds.table.pair (old.deeds.table.key p) ≡ Some q) = the_some (new.deeds.table.pair (old.deeds.table.key p)) v.0 in n.proper.table.item (old.deeds.table.key p) w.0 w.1) v.1 }, fits-asks ps h.1 w.1)
+        let key = old.deeds.table.key p in
+        let view = ask_view dig old.deeds.table (built old) in
+        let w = and-both (ask_fits dig new.deeds.table (view p)) (list_all (ask_fits dig new.deeds.table) (map view ps)) t in
+        let v = and-both (is_some (new.deeds.table.pair key)) (bytes_eq (dig.traits (new.deeds.table.traits key.id)) (dig.traits (old.deeds.table.traits key.id))) w.0 in
+        let now : (q : ℕ) × (new.deeds.table.pair key ≡ Some q) = the_some (new.deeds.table.pair key) v.0 in
+        let traits = apart.traits key.id (o.proper.table.item key p h.0) (n.proper.table.item key now.0 now.1) v.1 in
+        (record { there = h.0; here = some-or (new.deeds.table.pair key) v.0; traits = traits }, fits-asks ps h.1 w.1)
 
-    fits-marks : (marks : List TraceMark) → GroupsAll (λ p. old.deeds.table.pair (old.deeds.table.key p) ≡ Some p) marks → list_all (mark_fits dig new.deeds.table) (map (mark_view dig old.deeds.table (built old)) marks) ≡ true → FitsMarks dig old.deeds.table new.deeds.table (new.deeds.id i) (built old) k marks
+    fits-marks : (marks : List TraceMark) → GroupsAll (λ p. old.deeds.table.pair (old.deeds.table.key p) ≡ Some p) marks
+        → list_all (mark_fits dig new.deeds.table) (map (mark_view dig old.deeds.table (built old)) marks) ≡ true
+        → FitsMarks dig old.deeds.table new.deeds.table (new.deeds.id i) (built old) k marks
     fits-marks [] h t = tt
     fits-marks (group ps ∷ marks) h t =
         let w = and-both (list_all (ask_fits dig new.deeds.table) (map (ask_view dig old.deeds.table (built old)) ps)) (list_all (mark_fits dig new.deeds.table) (map (mark_view dig old.deeds.table (built old)) marks)) t in
@@ -296,11 +316,12 @@ module _ (dig : Digests) (old new : Site) (o : IsSite old) (n : IsSite new) (apa
         let b = and-both (print_fits && names_fit) patterns_fit c.0 in
         let a = and-both print_fits names_fit b.0 in
         let old_laws : IsRun (shape_of old) (clean_run old) = laws-of old o in
-        let front_fits : list_all (mark_fits dig new.deeds.table) marks0 ≡ true = (and-both (list_all (mark_fits dig new.deeds.table) marks0) (list_all (mark_fits dig new.deeds.table) (last0 ∷ [])) (sym (list_all-append (mark_fits dig new.deeds.table) marks0 (last0 ∷ [])) ∙ c.1)).0 in
+        let test = mark_fits dig new.deeds.table in
+        let front_fits : list_all test marks0 ≡ true = (and-both (list_all test marks0) (list_all test (last0 ∷ [])) (sym (list_all-append test marks0 (last0 ∷ [])) ∙ c.1)).0 in
         let last : last_page entry.marks ≡ x = last-of marks0 last0 ∙ rw (final-built old o j old_lt x ends) refl in
         let new_laws : IsRun (shape_of new) (clean_run new) = laws-of new n in
         let p : AllByRecursion PatternFits (patterns_of log0) = all-of-firsts PatternFits [] (patterns_of log0) tt (fits-patterns (firsts [] (patterns_of log0)) b.1) in
-        let numbers : AllByRecursion Listed (patterns_of log0) = listed (patterns_of log0) (numbered old.deeds.table (old.deeds.id j) (built old) (old.deeds.deed j) (deeds-named old.deeds o.proper j old_lt)) p in
+        let numbers : AllByRecursion Listed (patterns_of log0) = listed (patterns_of log0) (numbered-run old o j old_lt (built old)) p in
         let asked : AllByRecursion (λ q. q < pairs (shape_of old)) (asks_of log0) = recursion_from_All (λ q. q < pairs (shape_of old)) (asks_of log0) (old_laws.within j (built old) old_lt) in
         let ready : Ready dig old.deeds.table new.deeds.table (new.deeds.id i) (built old) k x (clean_run old j (built old)) (task_of new.deeds i) [] [] = record {
           ends = ends;
@@ -326,14 +347,17 @@ module _ (dig : Digests) (old new : Site) (o : IsSite old) (n : IsSite new) (apa
     abbrev whole0 : ℕ → List Mark
     whole0 j = whole_log (shape_of old) j (clean_run old j (built old))
 
-    by-fit : (e : EntryView) → (fits dig (items_of new) i e ≡ true → SameRun (shape_of new) i (run (replay_by dig (items_of new) i (task_of new.deeds i) e) k) (clean_run new i k)) → SameRun (shape_of new) i (run (replay_of dig new (image dig old) i (Some e)) k) (clean_run new i k)
+    by-fit : (e : EntryView)
+        → (fits dig (items_of new) i e ≡ true → SameRun (shape_of new) i (run (replay_by dig (items_of new) i (task_of new.deeds i) e) k) (clean_run new i k))
+        → SameRun (shape_of new) i (run (replay_of dig new (image dig old) i (Some e)) k) (clean_run new i k)
     by-fit e f =
         elim (fits dig (items_of new) i e) as (λ b. fits dig (items_of new) i e ≡ b → SameRun (shape_of new) i (run (cond b (replay_by dig (items_of new) i (task_of new.deeds i) e) (task_of new.deeds i)) k) (clean_run new i k)) [
           | true ↦ λ t. f t
           | false ↦ λ t. same-run (shape_of new) i (clean_run new i k)
         ] refl
 
-    by-end : (j : ℕ) → j < (shape_of old).items → old.deeds.id j ≡ new.deeds.id i → (e : End Page) → (clean_run old j (built old)).end ≡ e → SameRun (shape_of new) i (run (replay_of dig new (image dig old) i (entry_by dig (items_of old) (endings old) (built old) j (ends_with ((clean_run old j (built old)).log ++ final_mark (final_of (shape_of old) j) e) e))) k) (clean_run new i k)
+    by-end : (j : ℕ) → j < (shape_of old).items → old.deeds.id j ≡ new.deeds.id i → (e : End Page) → (clean_run old j (built old)).end ≡ e
+        → SameRun (shape_of new) i (run (replay_of dig new (image dig old) i (entry_by dig (items_of old) (endings old) (built old) j (ends_with ((clean_run old j (built old)).log ++ final_mark (final_of (shape_of old) j) e) e))) k) (clean_run new i k)
     by-end j old_lt one (fault e) h = same-run (shape_of new) i (clean_run new i k)
     by-end j old_lt one (waits ps) h = same-run (shape_of new) i (clean_run new i k)
     by-end j old_lt one (done x) h =
@@ -348,7 +372,8 @@ module _ (dig : Digests) (old new : Site) (o : IsSite old) (n : IsSite new) (apa
     unfolding status
     ending-is j = refl
 
-    by-item : (f : Option ℕ) → old.deeds.table.find (new.deeds.id i) ≡ f → SameRun (shape_of new) i (run (replay_of dig new (image dig old) i (entry_at dig (items_of old) (endings old) (built old) f)) k) (clean_run new i k)
+    by-item : (f : Option ℕ) → old.deeds.table.find (new.deeds.id i) ≡ f
+        → SameRun (shape_of new) i (run (replay_of dig new (image dig old) i (entry_at dig (items_of old) (endings old) (built old) f)) k) (clean_run new i k)
     by-item None h = same-run (shape_of new) i (clean_run new i k)
     by-item (Some j) h =
         let w = o.proper.found (new.deeds.id i) j h in
@@ -371,7 +396,8 @@ module _ (dig : Digests) (old new : Site) (o : IsSite old) (n : IsSite new) (apa
   rounds-same : (k : Pages) → Extends k (built new) → round lay replaying no_seeds k ≡ round lay (clean_run new) no_seeds k
   rounds-same k within = fun_ext (λ p. at p (nat_lt p (pairs lay)) refl)
     where
-      at : (p : ℕ) (b : Bool) → nat_lt p (pairs lay) ≡ b → cond b (page_of lay (item_of lay p) (replaying (item_of lay p) k) p) None ≡ cond b (page_of lay (item_of lay p) (clean_run new (item_of lay p) k) p) None
+      at : (p : ℕ) (b : Bool) → nat_lt p (pairs lay) ≡ b
+          → cond b (page_of lay (item_of lay p) (replaying (item_of lay p) k) p) None ≡ cond b (page_of lay (item_of lay p) (clean_run new (item_of lay p) k) p) None
       at p true t = page-same (item_of lay p) p (replaying (item_of lay p) k) (clean_run new (item_of lay p) k) (replays-same (item_of lay p) (n.shape.in_items p (ltb-true p (pairs lay) t)) k within)
       at p false t = refl
 
@@ -407,6 +433,7 @@ module _ (dig : Digests) (old new : Site) (o : IsSite old) (n : IsSite new) (apa
   pub image-same : entries_of dig (items_of new) (reendings dig new (image dig old)) (rebuilt dig new (image dig old)) ≡ image dig new
   image-same = fun_ext (λ id. at id (new.deeds.table.find id) refl)
     where
-      at : (id : Ident) (f : Option ℕ) → new.deeds.table.find id ≡ f → entry_at dig (items_of new) (reendings dig new (image dig old)) (rebuilt dig new (image dig old)) f ≡ entry_at dig (items_of new) (endings new) (built new) f
+      at : (id : Ident) (f : Option ℕ) → new.deeds.table.find id ≡ f
+          → entry_at dig (items_of new) (reendings dig new (image dig old)) (rebuilt dig new (image dig old)) f ≡ entry_at dig (items_of new) (endings new) (built new) f
       at id None h = refl
       at id (Some i) h = ap (λ k. entry_by dig (items_of new) (endings new) k i (reendings dig new (image dig old) i)) rebuilt-same ∙ ap (entry_by dig (items_of new) (endings new) (built new) i) (endings-same i (n.proper.found id i h).0)

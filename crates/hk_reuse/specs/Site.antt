@@ -1,11 +1,13 @@
 -- A plan's items, and what a clean build makes of them.
 use Rattle.std.specs.Prelude.{◌≡◌, ℕ, ◌<◌, List, map, codes, Some, None}
+use Rattle.std.specs.List.{AllByRecursion}
 use Rattle.hk_base.specs.Bytes.{Bytes}
 use Rattle.hk_base.specs.Identifier.{Ident}
-use Rattle.hk_chain.specs.Layout.{Shape, IsShape}
+use Rattle.hk_chain.specs.Layout.{Shape, IsShape, final_of}
 use Rattle.hk_chain.specs.Snapshots.{AreSnapshots}
 use Rattle.hk_fix.specs.Pages.{Pages, no_page}
 use Rattle.hk_chain.specs.declared.page.Page.{Page}
+use Rattle.hk_fix.specs.Run.{patterns_of}
 use Rattle.hk_fix.specs.Task.{Run, run}
 use Rattle.hk_fix.specs.Fix.{Seeds, Ending, fix, status}
 use Rattle.hk_fix.specs.Table.{Table, IsTable}
@@ -69,3 +71,8 @@ built site = fix (shape_of site) (clean_run site) no_seeds
 -- how its items end
 abbrev pub endings : Site → ℕ → Ending
 endings site = status (shape_of site) (clean_run site) no_seeds
+
+-- each item's last pair is that of its finished page, and the runs use patterns of the plan alone
+pub record UsesItsOwn (site : Site) : Type 0 where
+  pub finals : (i : ℕ) → i < (shape_of site).items → site.deeds.table.key (final_of (shape_of site) i) ≡ record { id = site.deeds.id i; name = final_name }
+  pub patterns : (i : ℕ) (k : Pages) → i < (shape_of site).items → AllByRecursion (λ n. n < site.patterns) (patterns_of (clean_run site i k).log)

@@ -11,7 +11,7 @@ ghost use Rattle.hk_reuse.specs.Histories.{others};
 ghost use Rattle.hk_reuse.specs.Image.{image};
 ghost use Rattle.hk_reuse.specs.Kept.{asks_unchanged, is_kept, kept_among, seeds_kept};
 ghost use Rattle.hk_reuse.specs.Rebuilt.{ArePlansApart, replay_run};
-ghost use Rattle.hk_reuse.specs.Site.{Items, Site, built, clean_run, endings, no_seeds, shape_of};
+ghost use Rattle.hk_reuse.specs.Site.{IsSite, Items, Site, UsesItsOwn, built, clean_run, endings, no_seeds, shape_of};
 
 /// An item that is kept is done in a clean build. A complete history of a build over the entries that a clean build of
 /// another plan left is, without the events of the kept items, a complete history of clean runs with the pages and facts
@@ -34,4 +34,12 @@ pub fn kept_unless_changed()
     ensures { (dig : Digests) (items : Items) (entries : Entries) (k : Pages) (i : ℕ) (entry : EntryView) → i < items.table.layout.items
         → entries (items.id i) ≡ Some entry → IsFormed entry → is_own dig items i entry ≡ true
         → kept_among dig items k entries i ≡ asks_unchanged dig items.table k entry }
+{}
+
+/// A plan is apart from itself, whatever the digests. Built again over the entries that its clean build left, it keeps each
+/// item that is done.
+pub fn unchanged_plans_keep_all()
+    ensures apart { (dig : Digests) (site : Site) → IsSite site → ArePlansApart dig site site }
+    ensures kept { (dig : Digests) (site : Site) (i : ℕ) → IsSite site → UsesItsOwn site → i < (shape_of site).items
+        → is_finished (endings site i) ≡ true → is_kept dig site (image dig site) i ≡ true }
 {}

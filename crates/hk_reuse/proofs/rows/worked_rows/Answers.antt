@@ -1,8 +1,11 @@
-use Rattle.hk_reuse.proofs.Examples.{are-apart, nothing-changed, other-page, same-page, new-cycle}
+use Rattle.hk_reuse.proofs.Examples.{are-apart, uses-own, nothing-changed, other-page, same-page, new-cycle}
 use Rattle.hk_reuse.proofs.rows.worked_rows.Goals as goal
 
 pub returns-clause-apart : goal.returns-clause-apart
 returns-clause-apart c = λ before after. are-apart before after
+
+pub returns-clause-own : goal.returns-clause-own
+returns-clause-own c = λ first. uses-own first
 
 pub returns-clause-nothing_changed : goal.returns-clause-nothing_changed
 returns-clause-nothing_changed c = nothing-changed
