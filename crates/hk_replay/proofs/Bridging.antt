@@ -39,7 +39,7 @@ same-asked dig e (x ∷ xs) [] = refl
 same-asked dig e (x ∷ xs) (v ∷ views) = λ i. bytes_eq (e x i) v.page && same-asked dig e xs views i
 
 module _ (table : Table) (own : Ident) (x : Page) where
-  attempts-same : (kept : List ℕ) (steps : List Step) (marks : List MarkView) → map step_view steps ≡ map (numbered_step table own) marks → attempt x kept steps ≡ names.attempt sha_digests table own x kept marks
+  pub attempts-same : (kept : List ℕ) (steps : List Step) (marks : List MarkView) → map step_view steps ≡ map (numbered_step table own) marks → attempt x kept steps ≡ names.attempt sha_digests table own x kept marks
   attempts-same kept [] [] e = refl
   attempts-same kept [] (m ∷ marks) e = cc
   attempts-same kept (s ∷ steps) [] e = cc

@@ -7,3 +7,5 @@ pub mod Phases
 pub mod Polling
 pub mod Bridging
 pub mod Matching
+pub mod Planned
+pub mod Renewed

@@ -11,3 +11,4 @@ pub mod Numbered
 pub mod Adding
 pub mod Known
 pub mod PlanItems
+pub mod Renewing

@@ -13,10 +13,11 @@ mod merging;
 mod named;
 mod numbering;
 mod record;
+mod renewing;
 mod replay;
 mod way;
 
 pub use maker::ReplayMaker;
-pub use named::records_are_entries;
+pub use named::{plans_have_items, records_are_entries};
 pub use record::{Record, Records, Step};
 pub use replay::{Held, Replay};
