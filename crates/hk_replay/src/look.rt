@@ -83,12 +83,7 @@ fn are_same(
 }
 
 /// Whether the told page of a pair has this digest.
-fn has_digest(
-    alloc: Global,
-    told: &Told,
-    pair: PairNo,
-    wanted: &[u8; 32],
-) -> Result<bool, NoMemory>
+fn has_digest(alloc: Global, told: &Told, pair: PairNo, wanted: &[u8; 32]) -> Result<bool, NoMemory>
     requires { is_some (told_pages told.now pair) ≡ true }
     ensures { IfOk result (λ b. b ≡ bytes_eq (digest (told_page (told_pages told.now) pair)) wanted.now) }
 {

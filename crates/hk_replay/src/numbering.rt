@@ -144,12 +144,7 @@ fn steps_of(
     Ok(steps)
 }
 
-fn step_of(
-    alloc: Global,
-    plan: &Plan,
-    item: ItemNo,
-    mark: &MarkRecord,
-) -> Result<Step, NoMemory>
+fn step_of(alloc: Global, plan: &Plan, item: ItemNo, mark: &MarkRecord) -> Result<Step, NoMemory>
     requires item { item < length plan.now.items }
     ensures { IfOk result (λ s. step_view s ≡ numbered_step (table_of plan.now) (id_at plan.now item) (mark_view mark.now)) }
 {

@@ -45,11 +45,7 @@ fn goes_through(
 }
 
 /// Whether the pages of all groups are known and have the recorded digests.
-fn are_passed(
-    alloc: Global,
-    steps: &[Step],
-    pages: &[Option<PageRef>],
-) -> Result<bool, NoMemory>
+fn are_passed(alloc: Global, steps: &[Step], pages: &[Option<PageRef>]) -> Result<bool, NoMemory>
     ensures { IfOk result (λ b. b ≡ is_passed (at_place pages.now) steps.now) }
 {
     for step in steps {
@@ -61,11 +57,7 @@ fn are_passed(
     Ok(true)
 }
 
-fn step_passes(
-    alloc: Global,
-    step: &Step,
-    pages: &[Option<PageRef>],
-) -> Result<bool, NoMemory>
+fn step_passes(alloc: Global, step: &Step, pages: &[Option<PageRef>]) -> Result<bool, NoMemory>
     ensures { IfOk result (λ b. b ≡ is_passed (at_place pages.now) (step.now ∷ [])) }
 {
     match step {

@@ -13,11 +13,11 @@ loop-step-preserved c =
     elim c.match-step.branch as (λ x. c.match-step.names.items ≡ saves (take (i + 1) steps)) [
       | in-Save+in_ok-name+in_ok-push w ↦
           ap (λ v. v.items) w.names-is
-              ∙ (w.in_ok-push.ensures.items
-              ∙ ((λ j. c.loop-step.invariant j ++ (w.in_ok-name.ensures ∙ w.as_slice.ensures) j ∷ [])
-              ∙ sym (turn ∙ ap (λ (s : Step). saves (take i steps) ++ saves (s ∷ [])) w.in-Save.is)))
+          ∙ (w.in_ok-push.ensures.items
+          ∙ ((λ j. c.loop-step.invariant j ++ (w.in_ok-name.ensures ∙ w.as_slice.ensures) j ∷ [])
+          ∙ sym (turn ∙ ap (λ (s : Step). saves (take i steps) ++ saves (s ∷ [])) w.in-Save.is)))
       | in_default w ↦
           ap (λ v. v.items) w.names-is
-              ∙ (c.loop-step.invariant
-              ∙ sym (turn ∙ (ap (λ l. saves (take i steps) ++ l) (no-save c.step-item.result w.in_default.not-Save) ∙ append-nil (saves (take i steps)))))
+          ∙ (c.loop-step.invariant
+          ∙ sym (turn ∙ (ap (λ l. saves (take i steps) ++ l) (no-save c.step-item.result w.in_default.not-Save) ∙ append-nil (saves (take i steps)))))
     ]

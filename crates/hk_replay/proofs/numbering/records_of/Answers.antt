@@ -16,8 +16,7 @@ loop-at-preserved c =
     let at = c.loop-at.at in
     let back : (at - 1) + 1 ≡ at = omega (arith, c.loop-at-test.true) in
     let e : EntryView = c.index.result.now in
-    let here : e ≡ get_or entries (at - 1) e = c.index.ensures ∙ ap (λ (l : List EntryView). get_or l (at - 1) e) c.stored.view_is in
-    (
+    let here : e ≡ get_or entries (at - 1) e = c.index.ensures ∙ ap (λ (l : List EntryView). get_or l (at - 1) e) c.stored.view_is in (
       omega (arith, c.loop-at.invariant.0),
       c.in_ok-add_record.ensures.count ∙ c.loop-at.invariant.1,
       adds-turn plan entries (at - 1) e c.loop-at.by_item.items c.add_record.new.by_item.items (omega (arith, c.loop-at.invariant.0, c.loop-at-test.true)) here c.in_ok-add_record.ensures.added
