@@ -9,3 +9,4 @@ pub mod Bridging
 pub mod Matching
 pub mod Planned
 pub mod Renewed
+pub mod Leaving

@@ -12,3 +12,4 @@ pub mod Adding
 pub mod Known
 pub mod PlanItems
 pub mod Renewing
+pub mod Storing

@@ -49,7 +49,7 @@ impl Known {
     pub(crate) fn of(alloc: Global, plan: &Plan) -> Result<Known, NoMemory>
         ensures { IfOk result (λ k. IsKnown plan.now k) }
     {
-        let traits = traits_of(alloc, plan)?;
+        let traits = all_traits(alloc, plan)?;
         let texts = texts_of(alloc, plan)?;
         let matches = matches_of(alloc, plan)?;
         Ok(Known {
@@ -74,6 +74,22 @@ impl Known {
         &self.matches[place].items
     }
 
+    /// The text of the pattern at a place. Constant.
+    pub(crate) fn text(&self, place: usize) -> &[u8]
+        requires { place < length self.now.texts }
+        ensures { result.now ≡ get_or self.now.texts place [] }
+    {
+        self.texts[place].as_slice()
+    }
+
+    /// The digest of an item's traits. Constant.
+    pub(crate) fn traits_of(&self, item: ItemNo) -> [u8; 32]
+        requires { item < length self.now.traits }
+        ensures { result ≡ get_or self.now.traits item [] }
+    {
+        self.traits[item.0 as usize]
+    }
+
     /// Whether an item's traits have this digest. Constant.
     pub(crate) fn has_traits(&self, item: ItemNo, digest: &[u8; 32]) -> bool
         requires { item < length self.now.traits }
@@ -96,7 +112,7 @@ fn place_of(texts: &[Text], text: &[u8]) -> Option<usize>
 }
 
 /// The digests of the items' traits, each computed once.
-fn traits_of(alloc: Global, plan: &Plan) -> Result<Vec<[u8; 32]>, NoMemory>
+fn all_traits(alloc: Global, plan: &Plan) -> Result<Vec<[u8; 32]>, NoMemory>
     ensures count { IfOk result (λ v. length v.items ≡ length plan.now.items) }
     ensures each { IfOk result (λ v. (item : ℕ) → item < length plan.now.items → get_or v.items item [] ≡ sha_digests.traits (traits_at plan.now item)) }
 {

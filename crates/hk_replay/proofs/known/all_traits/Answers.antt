@@ -5,7 +5,7 @@ use Rattle.hk_fix.specs.Table.{Traits}
 use Rattle.hk_rules.specs.Plan.{lookups}
 use Rattle.hk_store.specs.Traits.{sha_digests}
 use Rattle.hk_replay.proofs.Matching.{traits-now, copied-map, get-pushed}
-use Rattle.hk_replay.proofs.known.traits_of.Goals as goal
+use Rattle.hk_replay.proofs.known.all_traits.Goals as goal
 
 pub loop-number-preserved : goal.loop-number-preserved
 loop-number-preserved c =
