@@ -114,7 +114,8 @@ fn place_of(texts: &[Text], text: &[u8]) -> Option<usize>
 /// The digests of the items' traits, each computed once.
 fn all_traits(alloc: Global, plan: &Plan) -> Result<Vec<[u8; 32]>, NoMemory>
     ensures count { IfOk result (λ v. length v.items ≡ length plan.now.items) }
-    ensures each { IfOk result (λ v. (item : ℕ) → item < length plan.now.items → get_or v.items item [] ≡ sha_digests.traits (traits_at plan.now item)) }
+    ensures each { IfOk result (λ v. (item : ℕ) → item < length plan.now.items
+        → get_or v.items item [] ≡ sha_digests.traits (traits_at plan.now item)) }
 {
     let mut traits = Vec::new(alloc);
     for number in 0..plan.count() {

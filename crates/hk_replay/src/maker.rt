@@ -65,7 +65,8 @@ impl<K: Maker + Drop> ReplayMaker<K> {
         plan: &Plan,
         results: &Results,
     ) -> Result<Vec<ItemNo>, NoMemory>
-        ensures { IfOk result (λ v. (entries : Entries) → AreNumbered sha_digests (items_of plan.now) entries self.now.records → v.items ≡ out_of_date sha_digests (items_of plan.now) (at_place results.now.pages) entries) }
+        ensures { IfOk result (λ v. (entries : Entries) → AreNumbered sha_digests (items_of plan.now) entries self.now.records
+            → v.items ≡ out_of_date sha_digests (items_of plan.now) (at_place results.now.pages) entries) }
     {
         others_of(alloc, self.records.get(), &results.pages, plan.count())
     }

@@ -147,7 +147,8 @@ fn marks_of(
     requires form { IsPlan plan.now }
     requires known { IsKnown plan.now known.now }
     requires pages { AllByRecursion (HavePages plan.now (at_place pages.now)) (map traces.mark_view trace.now) }
-    ensures { IfOk result (λ v. map marks.mark_view v.items ≡ map (image.mark_view sha_digests (table_of plan.now) (at_place pages.now)) (map traces.mark_view trace.now)) }
+    ensures { IfOk result (λ v. map marks.mark_view v.items
+        ≡ map (image.mark_view sha_digests (table_of plan.now) (at_place pages.now)) (map traces.mark_view trace.now)) }
 {
     let mut records = Vec::with_capacity(alloc, trace.len())?;
     for mark in trace {

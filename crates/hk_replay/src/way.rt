@@ -130,7 +130,8 @@ pub(crate) fn go_on<M: Compiler>(
     requires going { way.old.is_ended ≡ false }
     requires broken { way.old.is_broken ≡ true }
     requires settled { way.old.last ≡ None }
-    ensures goes { IfOk result (λ p. Goes (over_shape M.shape) (over_run M.run) (way_meaning M.meaning records.now way.old) p (way_meaning M.meaning records.now way.new)) }
+    ensures goes { IfOk result (λ p. Goes (over_shape M.shape) (over_run M.run)
+        (way_meaning M.meaning records.now way.old) p (way_meaning M.meaning records.now way.new)) }
     ensures keeps { OnOk result (Keeps M.meaning M.run records.now way.new) }
     ensures room { OnOk result (HasRoom M.meaning way.new) }
     ensures stays { OnErr result (Stays M.meaning way.old way.new) }
@@ -186,7 +187,8 @@ pub(crate) fn go<M: Compiler>(
     requires keeps { Keeps M.meaning M.run records.now way.old }
     requires closed { (way_meaning M.meaning records.now way.old).awaits ≡ [] }
     requires going { way.old.is_ended ≡ false }
-    ensures goes { IfOk result (λ p. Goes (over_shape M.shape) (over_run M.run) (way_meaning M.meaning records.now way.old) p (way_meaning M.meaning records.now way.new)) }
+    ensures goes { IfOk result (λ p. Goes (over_shape M.shape) (over_run M.run)
+        (way_meaning M.meaning records.now way.old) p (way_meaning M.meaning records.now way.new)) }
     ensures keeps { OnOk result (Keeps M.meaning M.run records.now way.new) }
     ensures room { OnOk result (HasRoom M.meaning way.new) }
     ensures stays { OnErr result (Stays M.meaning way.old way.new) }
@@ -209,7 +211,8 @@ pub(crate) fn begin<M: Compiler>(alloc: Global, records: &Records, inner: M) -> 
     ensures inner { result.inner ≡ inner }
     ensures keeps { Keeps M.meaning M.run records.now result }
     ensures room { HasRoom M.meaning result }
-    ensures fresh { way_meaning M.meaning records.now result ≡ fresh (record { inner = (M.meaning inner).common; records = records.now }) (M.meaning inner).item }
+    ensures fresh { way_meaning M.meaning records.now result
+        ≡ fresh (record { inner = (M.meaning inner).common; records = records.now }) (M.meaning inner).item }
 {
     let is_broken = record_of(records, inner.item()).is_none();
     Way {
