@@ -1,0 +1,19 @@
+-- What is known of a plan before entries are held against it.
+use Rattle.std.specs.Prelude.{◌≡◌, ℕ, ◌<◌, List, map, length, get_or, []}
+use Rattle.hk_base.specs.Bytes.{Bytes}
+use Rattle.hk_rules.specs.Plan.{matches_in}
+use Rattle.hk_rules.specs.PlanView.{PlanView}
+use Rattle.hk_eval.specs.PlanTable.{traits_at, pattern_texts}
+use Rattle.hk_store.specs.Traits.{sha_digests}
+
+pub record KnownView : Type 0 where
+  pub traits : List Bytes
+  pub texts : List Bytes
+  pub matches : List (List ℕ)
+
+-- the digest of each item's traits, and each pattern's text and matches
+pub record IsKnown (plan : PlanView) (known : KnownView) : Type 0 where
+  pub count : length known.traits ≡ length plan.items
+  pub traits : (item : ℕ) → item < length plan.items → get_or known.traits item [] ≡ sha_digests.traits (traits_at plan item)
+  pub texts : known.texts ≡ pattern_texts plan
+  pub matches : known.matches ≡ map (matches_in plan.items) plan.patterns

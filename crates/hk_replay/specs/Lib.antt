@@ -1,0 +1,15 @@
+pub mod Finding
+pub mod Going
+pub mod Keeping
+pub mod Lawful
+pub mod Merging
+pub mod RecordsOnce
+pub mod Replaying
+pub mod Replays
+pub mod Turning
+pub mod Numbered
+pub mod Adding
+pub mod Known
+pub mod PlanItems
+pub mod Renewing
+pub mod Storing

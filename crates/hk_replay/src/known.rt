@@ -1,0 +1,163 @@
+// What is known of a plan before entries are held against it.
+ghost use Rattle.std.specs.Prelude.{◌≡◌, ◌<◌, ℕ, [], length, map, get_or, bytes_eq, IfOk};
+ghost use Rattle.std.specs.List.{position_from};
+ghost use Rattle.hk_rules.specs.Plan.{matches_in};
+ghost use Rattle.hk_eval.specs.PlanTable.{traits_at, pattern_texts};
+ghost use Rattle.hk_store.specs.Traits.{sha_digests};
+ghost use Rattle.hk_replay.specs.Known.{IsKnown};
+
+use hk_base::{NoMemory, Text};
+use hk_chain::{ItemNo, PatternNo};
+use hk_rules::{Plan, text_of_pattern};
+use hk_store::traits_digest;
+use std::alloc::Global;
+use std::marker::Model;
+
+/// The items that a pattern matches.
+#[derive(Drop)]
+pub(crate) struct Matched {
+    pub(crate) items: Vec<ItemNo>,
+}
+
+impl Model for Matched {
+    ghost use Rattle.std.specs.Prelude.{ℕ, List};
+
+    ghost Value = { List ℕ };
+
+    ghost view = { λ m. m.items.items };
+}
+
+/// The digest of each item's traits, and each pattern's text and matches.
+#[derive(Drop)]
+pub(crate) struct Known {
+    pub(crate) traits: Vec<[u8; 32]>,
+    pub(crate) texts: Vec<Text>,
+    pub(crate) matches: Vec<Matched>,
+}
+
+impl Model for Known {
+    ghost use Rattle.hk_replay.specs.Known.{KnownView};
+
+    ghost Value = { KnownView };
+
+    ghost view = { λ k. record { traits = k.traits.items; texts = k.texts.items; matches = k.matches.items } };
+}
+
+impl Known {
+    /// What is known of a plan. `NoMemory` only for want of memory. Linear in the items' metadata and the patterns' texts;
+    /// each pattern is matched once.
+    pub(crate) fn of(alloc: Global, plan: &Plan) -> Result<Known, NoMemory>
+        ensures { IfOk result (λ k. IsKnown plan.now k) }
+    {
+        let traits = all_traits(alloc, plan)?;
+        let texts = texts_of(alloc, plan)?;
+        let matches = matches_of(alloc, plan)?;
+        Ok(Known {
+            traits,
+            texts,
+            matches,
+        })
+    }
+
+    /// The first place of a pattern's text. Linear in the texts.
+    pub(crate) fn place(&self, text: &[u8]) -> Option<usize>
+        ensures { result ≡ position_from (λ own. bytes_eq own text.now) 0 self.now.texts }
+    {
+        place_of(&self.texts, text)
+    }
+
+    /// The items that the pattern at a place matches. Constant.
+    pub(crate) fn matched(&self, place: usize) -> &[ItemNo]
+        requires { place < length self.now.matches }
+        ensures { result.now ≡ get_or self.now.matches place [] }
+    {
+        &self.matches[place].items
+    }
+
+    /// The text of the pattern at a place. Constant.
+    pub(crate) fn text(&self, place: usize) -> &[u8]
+        requires { place < length self.now.texts }
+        ensures { result.now ≡ get_or self.now.texts place [] }
+    {
+        self.texts[place].as_slice()
+    }
+
+    /// The digest of an item's traits. Constant.
+    pub(crate) fn traits_of(&self, item: ItemNo) -> [u8; 32]
+        requires { item < length self.now.traits }
+        ensures { result ≡ get_or self.now.traits item [] }
+    {
+        self.traits[item.0 as usize]
+    }
+
+    /// Whether an item's traits have this digest. Constant.
+    pub(crate) fn has_traits(&self, item: ItemNo, digest: &[u8; 32]) -> bool
+        requires { item < length self.now.traits }
+        ensures { result ≡ bytes_eq (get_or self.now.traits item []) digest.now }
+    {
+        self.traits[item.0 as usize].as_slice() == digest.as_slice()
+    }
+}
+
+/// The first place of a text.
+fn place_of(texts: &[Text], text: &[u8]) -> Option<usize>
+    ensures { result ≡ position_from (λ own. bytes_eq own text.now) 0 texts.now }
+{
+    for place in 0..texts.len() {
+        if texts[place].as_slice() == text {
+            return Some(place);
+        }
+    }
+    None
+}
+
+/// The digests of the items' traits, each computed once.
+fn all_traits(alloc: Global, plan: &Plan) -> Result<Vec<[u8; 32]>, NoMemory>
+    ensures count { IfOk result (λ v. length v.items ≡ length plan.now.items) }
+    ensures each { IfOk result (λ v. (item : ℕ) → item < length plan.now.items
+        → get_or v.items item [] ≡ sha_digests.traits (traits_at plan.now item)) }
+{
+    let mut traits = Vec::new(alloc);
+    for number in 0..plan.count() {
+        let item = ItemNo(number);
+        let digest = traits_digest(alloc, plan.target_of(item), plan.meta(item))?;
+        traits.push(digest)?;
+    }
+    Ok(traits)
+}
+
+/// The texts of the patterns.
+fn texts_of(alloc: Global, plan: &Plan) -> Result<Vec<Text>, NoMemory>
+    ensures { IfOk result (λ v. v.items ≡ pattern_texts plan.now) }
+{
+    let mut texts = Vec::new(alloc);
+    for number in 0..plan.pattern_count() {
+        let pattern = pattern_no(number)?;
+        let text = text_of_pattern(alloc, plan.pattern(pattern))?;
+        texts.push(text)?;
+    }
+    Ok(texts)
+}
+
+/// The items that the patterns match.
+fn matches_of(alloc: Global, plan: &Plan) -> Result<Vec<Matched>, NoMemory>
+    ensures { IfOk result (λ v. v.items ≡ map (matches_in plan.now.items) plan.now.patterns) }
+{
+    let mut matches = Vec::new(alloc);
+    for number in 0..plan.pattern_count() {
+        let pattern = pattern_no(number)?;
+        let items = plan.matches(alloc, pattern)?;
+        matches.push(Matched { items })?;
+    }
+    Ok(matches)
+}
+
+/// The number of a pattern. More patterns than there are numbers count as want of memory.
+pub(crate) fn pattern_no(number: usize) -> Result<PatternNo, NoMemory>
+    ensures { IfOk result (λ p. p ≡ number) }
+{
+    match u32::try_from(number) {
+        Ok(number) => Ok(PatternNo(number)),
+        Err(_) => Err(NoMemory),
+    }
+}

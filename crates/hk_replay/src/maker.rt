@@ -1,0 +1,100 @@
+// What makes replays over the compilers that another maker makes.
+ghost use Rattle.std.specs.Prelude.{◌≡◌, IfOk};
+ghost use Rattle.hk_rules.specs.Plan.{lookups};
+ghost use Rattle.hk_store.specs.Stored.{IsStored};
+ghost use Rattle.hk_store.specs.Traits.{sha_digests};
+ghost use Rattle.hk_chain.specs.Kept.{at_place};
+ghost use Rattle.hk_reuse.specs.Entries.{Entries, entries_in};
+ghost use Rattle.hk_reuse.specs.Kept.{out_of_date};
+ghost use Rattle.hk_replay.specs.Numbered.{AreNumbered};
+ghost use Rattle.hk_replay.specs.PlanItems.{items_of};
+ghost use Rattle.hk_replay.specs.Replays.{AreRecords};
+ghost use Rattle.hk_replay.specs.RecordsOnce.{records-prop};
+
+use crate::named::{plans_have_items, records_are_entries};
+use crate::numbering::records_of;
+use crate::record::Records;
+use crate::renewing::others_of;
+use crate::replay::{Held, Replay};
+use crate::way::begin;
+use hk_base::{NoMemory, Shared};
+use hk_chain::ItemNo;
+use hk_fix::{Compiler, Maker, Results};
+use hk_rules::Plan;
+use hk_store::Stored;
+use std::alloc::Global;
+
+/// Makes replays over the compilers of another maker.
+#[derive(Drop)]
+pub struct ReplayMaker<K: Maker + Drop> {
+    inner: K,
+    records: Shared<Records>,
+    ghost fit: { AreRecords (K.M.shape (K.common_is inner)) records } by { records-prop (K.M.shape (K.common_is inner)) records },
+}
+
+impl<K: Maker + Drop> ReplayMaker<K> {
+    /// What makes the replays of a store's entries, where they fit the items of a plan; all other items are compiled by the
+    /// inner compilers. `NoMemory` only for want of memory. Linear in the items' fingerprints and metadata and in the store
+    /// but for the bodies of its pages, which are shared; logarithmic for each entry and each asked page.
+    pub fn new(
+        alloc: Global,
+        plan: &Plan,
+        stored: &Stored,
+        inner: K,
+    ) -> Result<ReplayMaker<K>, NoMemory>
+        requires layout { K.M.shape (K.common_is inner) ≡ (lookups plan.now).layout }
+        requires stored { IsStored stored.now }
+        ensures inner { IfOk result (λ m. m.inner ≡ inner) }
+        ensures records { IfOk result (λ m. AreNumbered sha_digests (items_of plan.now) (entries_in stored.now) m.records) }
+    {
+        plans_have_items();
+        records_are_entries();
+        plan.linked();
+        let _count = plan.count();
+        let made = records_of(alloc, plan, stored)?;
+        let records = Shared::new(alloc, made)?;
+        Ok(ReplayMaker { inner, records })
+    }
+
+    /// The items that are out of date once a build has ended: those without an entry that fits and goes through all its
+    /// marks under the pages that are known then. `NoMemory` only for want of memory. Linear in the asked pages, which are
+    /// hashed.
+    pub fn out_of_date(
+        &self,
+        alloc: Global,
+        plan: &Plan,
+        results: &Results,
+    ) -> Result<Vec<ItemNo>, NoMemory>
+        ensures { IfOk result (λ v. (entries : Entries) → AreNumbered sha_digests (items_of plan.now) entries self.now.records
+            → v.items ≡ out_of_date sha_digests (items_of plan.now) (at_place results.now.pages) entries) }
+    {
+        others_of(alloc, self.records.get(), &results.pages, plan.count())
+    }
+}
+
+impl<K: Maker + Drop> Maker for ReplayMaker<K> {
+    ghost use Rattle.hk_replay.specs.Keeping.{HeldView};
+
+    type M = Replay<K::M>;
+
+    ghost common_is = { λ k. record { inner = K.common_is k.inner; records = k.records } };
+
+    fn common(&self, alloc: Global) -> Result<Held<<K::M as Compiler>::Common>, NoMemory> {
+        let inner = self.inner.common(alloc)?;
+        let records = self.records.try_clone()?;
+        Ok(Held { inner, records })
+    }
+
+    fn make(&self, alloc: Global, item: ItemNo) -> Result<Replay<K::M>, NoMemory> {
+        let inner = self.inner.make(alloc, item)?;
+        let records = self.records.try_clone()?;
+        let way = begin(alloc, records.get(), inner);
+        Ok(Replay {
+            records,
+            way,
+            is_spent: false,
+        })
+    }
+
+    ghost made = { λ k. (K.made k.inner, k.fit) };
+}
