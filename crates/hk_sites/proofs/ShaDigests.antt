@@ -1,5 +1,5 @@
 -- A digest by SHA-256 has 32 bytes.
-use Rattle.std.proofs.Common.{ℕ, zero, suc, ◌<◌, List, arith}
+use Rattle.std.proofs.Common.{ℕ, zero, suc, ◌<◌, List, [], ◌∷◌, arith}
 use Rattle.std.specs.Prelude.{slice_index}
 use Rattle.std.specs.Int.{to_be_bytes, w32}
 use Rattle.std.specs.List.{AllByRecursion}
@@ -26,8 +26,13 @@ pub sha-bytes : (text : Bytes) → AllByRecursion (λ byte. byte < 256) (sha256 
 unfolding sha256
 sha-bytes text = words-bytes (final_hash initial_hash_256 text) 8
 
+each-byte : (bytes : Bytes) → AllByRecursion IsByte bytes → (i : ℕ) → slice_index bytes i < 256
+each-byte [] all i = omega arith
+each-byte (b ∷ bytes) all zero = all.0
+each-byte (b ∷ bytes) all (suc i) = each-byte bytes all.1 i
+
 sha-digest : (text : Bytes) → IsDigest (sha256 text)
-sha-digest text = (length-sha256 text, sha-bytes text)
+sha-digest text = (length-sha256 text, each-byte (sha256 text) (sha-bytes text))
 
 pub sha-sound : HasDigests sha_digests
 unfolding sha_digests

@@ -24,7 +24,7 @@ regroup a b r h = subst Short (append_assoc a b r) h
 -- ---- numbers
 
 -- a line without line feeds, and its line feed
-abbrev Plain : Bytes → Type 0
+abbrev pub Plain : Bytes → Type 0
 Plain line = AllByRecursion (λ c. 10 < c) line
 
 line-told : (a b : Bytes) → Plain a → Plain b → (r s : Bytes) → (a ++ 10 ∷ []) ++ r ≡ (b ++ 10 ∷ []) ++ s → (a ≡ b) × (r ≡ s)
@@ -55,7 +55,7 @@ digits-plain (suc k) n acc h =
       | false ↦ digits-plain k (n / 10) (digit_glyph false (n % 10) ∷ acc) (glyph-plain false (n % 10), h)
     ]
 
-decimal-plain : (n : ℕ) → Plain (decimal n)
+pub decimal-plain : (n : ℕ) → Plain (decimal n)
 unfolding digits
 decimal-plain n = digits-plain 64 n [] tt
 
@@ -73,7 +73,7 @@ num-full n = omega (arith, length-append (decimal n) (10 ∷ []))
 -- ---- texts with their lengths
 
 -- bytes of one length
-same-length : (a b : Bytes) → length a ≡ length b → (r s : Bytes) → a ++ r ≡ b ++ s → (a ≡ b) × (r ≡ s)
+pub same-length : (a b : Bytes) → length a ≡ length b → (r s : Bytes) → a ++ r ≡ b ++ s → (a ≡ b) × (r ≡ s)
 same-length [] [] l r s e = (refl, e)
 same-length [] (y ∷ b) l r s e = absurd (omega (arith, l))
 same-length (x ∷ a) [] l r s e = absurd (omega (arith, l))
@@ -83,7 +83,7 @@ same-length (x ∷ a) (y ∷ b) l r s e =
     let z : (a ≡ b) × (r ≡ s) = same-length a b (omega (arith, l)) r s t in
     (rw (w, z.0) refl, z.1)
 
-length-str : (a : Bytes) → length a ≤ length (str a)
+pub length-str : (a : Bytes) → length a ≤ length (str a)
 length-str a = omega (arith, length-append (num (length a)) (a ++ 10 ∷ []), length-append a (10 ∷ []))
 
 -- a text in a short one is short
@@ -101,7 +101,7 @@ str-told a b h g r s short e =
 pub str-full : (a : Bytes) → 0 < length (str a)
 str-full a = omega (arith, length-append (num (length a)) (a ++ 10 ∷ []), num-full (length a))
 
-first-of : (a b : ℕ) (r s : Bytes) → a ∷ r ≡ b ∷ s → a ≡ b
+pub first-of : (a b : ℕ) (r s : Bytes) → a ∷ r ≡ b ∷ s → a ≡ b
 first-of a b r s e = cc
 
 pub opt-told : (o : Option Bytes) → Told Any opt o

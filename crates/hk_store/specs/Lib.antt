@@ -1,9 +1,14 @@
+pub mod Damage
 pub mod Digests
+pub mod Digits
 pub mod Entry
+pub mod Found
 pub mod Marks
 pub mod Reached
+pub mod Reading
 pub mod RecipeText
 pub mod Stored
+pub mod StoreReading
 pub mod StoreText
 pub mod Told
 pub mod Traits

@@ -2,6 +2,7 @@
 use Rattle.std.specs.Prelude.{◌≡◌, ◌<◌, Bool, true, ◌||◌, List, [], ◌∷◌, ◌++◌, length, map, None, bytes_eq, codes}
 use Rattle.std.specs.List.{AllByRecursion, IsDistinct}
 use Rattle.std.specs.List.Sorted.{IsStrictlySortedBy}
+use Rattle.hex.specs.Hex.{IsBytes}
 use Rattle.hk_base.specs.Bytes.{Bytes}
 use Rattle.hk_base.specs.Identifier.{Ident, ident_cmp, ident_fault}
 use Rattle.hk_chain.specs.declared.page.Page.{Page}
@@ -56,7 +57,7 @@ pub record IsStored (entries : List EntryView) : Type 0 where
 -- ---- what each value in memory has: identifiers within their limits, and digests of 32 bytes
 
 abbrev pub IsDigest : Bytes → Type 0
-IsDigest digest = (length digest ≡ 32) × AllByRecursion (λ byte. byte < 256) digest
+IsDigest digest = (length digest ≡ 32) × IsBytes digest
 
 abbrev pub HeldId : Ident → Type 0
 HeldId id = ident_fault id.path id.version ≡ None
