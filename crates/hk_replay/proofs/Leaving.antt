@@ -1,12 +1,11 @@
 -- What a build leaves: a plan's keys, traits and matches, and one item's entry more at a time.
-use Rattle.std.proofs.Common.{◌≡◌, refl, sym, ap, subst, ◌∙◌, arith, ℕ, zero, suc, ◌+◌, ◌<◌, cond, List, [], ◌∷◌, ◌++◌, append-nil, length, map, get_or, Option, Some, None, option_map}
+use Rattle.std.proofs.Common.{◌≡◌, refl, sym, ap, subst, ◌∙◌, arith, ℕ, zero, suc, ◌+◌, ◌<◌, List, [], ◌∷◌, ◌++◌, length, map, get_or, Option, Some, None, option_map}
 use Rattle.std.specs.Prelude.{filter_map}
 use Rattle.std.specs.List.{AllByRecursion, cons_option}
 use Rattle.std.specs.Option.{unwrap_or}
 use Rattle.std.proofs.lemmas.List.{get_or-map}
 use Rattle.hk_base.specs.Bytes.{Bytes}
 use Rattle.hk_chain.specs.Facts.{FactsView}
-use Rattle.hk_chain.specs.Layout.{Shape}
 use Rattle.hk_eval.specs.PlanTable.{table_of, traits_at, pattern_texts}
 use Rattle.hk_eval.proofs.PlanNames.{found-at, plan-is_told}
 use Rattle.hk_fix.specs.Fix.{Ending, finished, faulted, waiting}

@@ -10,3 +10,5 @@ pub mod Matching
 pub mod Planned
 pub mod Renewed
 pub mod Leaving
+mod FirstPlaces
+mod SamePages

@@ -1,8 +1,8 @@
 -- Entries held against a plan: loops over names, texts and marks, and what a plan's table tells.
-use Rattle.std.proofs.Common.{◌≡◌, refl, sym, ap, subst, ◌∙◌, arith, ℕ, zero, suc, ◌+◌, ◌-◌, ◌<◌, ◌≤◌, Bool, true, false, cond, ◌&&◌, List, [], ◌∷◌, ◌++◌, length, length-append, map, take, drop, drop_of_length-le, get_or, Option, Some, None, is_some, option_map, option_copied, nat_eq, nat_lt, eqb-true, eq-eqb, Bor, Result, Ok, Err, IfOk}
+use Rattle.std.proofs.Common.{◌≡◌, refl, sym, ap, ◌∙◌, arith, ℕ, zero, suc, ◌+◌, ◌-◌, ◌<◌, ◌≤◌, Bool, true, false, cond, ◌&&◌, List, [], ◌∷◌, ◌++◌, length, map, take, drop, drop_of_length-le, get_or, Option, Some, None, option_map, option_copied, nat_eq, nat_lt, eqb-true, eq-eqb, Bor, Result, Ok, Err, IfOk}
 use Rattle.std.specs.Prelude.{bytes_eq, slice_set}
 use Rattle.std.specs.Cmp.Lexicographic.{pointwise}
-use Rattle.std.specs.List.{AllByRecursion, list_all, position_from, cons_option}
+use Rattle.std.specs.List.{position_from, cons_option}
 use Rattle.std.specs.Ordering.{eq_by_cmp}
 use Rattle.std.specs.Option.{option_and_then, unwrap_or}
 use Rattle.std.proofs.lemmas.List.{take_more, drop_more, map-append, get_or-map, length-map}
@@ -15,7 +15,7 @@ use Rattle.hk_chain.specs.declared.chain.Step.{Step}
 use Rattle.hk_chain.specs.declared.chain.Step.TheVariants as steps
 use Rattle.hk_fix.specs.Table.{Key, Traits, no_traits}
 use Rattle.hk_eval.specs.PlanTable.{table_of, traits_at, pattern_texts, number_of}
-use Rattle.hk_rules.specs.Pairs.{saved, saves, layout, count_of}
+use Rattle.hk_rules.specs.Pairs.{saved, saves, count_of}
 use Rattle.hk_rules.specs.Plan.{find_in, pair_of, id_at, chain_at, pattern_at, matches_in, lookups}
 use Rattle.hk_rules.specs.PatternText.{text_of}
 use Rattle.hk_pattern.specs.declared.pattern.Pattern.{Pattern}
@@ -23,7 +23,7 @@ use Rattle.hk_pattern.specs.declared.pattern.Pattern.TheVariants.{HasNoVersion}
 use Rattle.hk_rules.specs.PlanView.{PlanView}
 use Rattle.hk_rules.proofs.ItemNumbers.{find_in-item}
 use Rattle.hk_rules.proofs.PairNumbers.{position-at}
-use Rattle.hk_store.specs.Entry.{MatchView, MarkView, asked, stored}
+use Rattle.hk_store.specs.Entry.{MatchView, MarkView}
 use Rattle.hk_store.specs.Marks.{mark_view}
 use Rattle.hk_store.specs.declared.entry.MarkRecord.{MarkRecord}
 use Rattle.hk_store.specs.declared.entry.SaveRecord.{SaveRecord}

@@ -13,3 +13,4 @@ pub mod Known
 pub mod PlanItems
 pub mod Renewing
 pub mod Storing
+pub mod Places

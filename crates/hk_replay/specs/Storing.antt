@@ -1,5 +1,5 @@
 -- Results of which a store can be made.
-use Rattle.std.specs.Prelude.{◌≡◌, ℕ, ◌<◌, List, length, Option, Some, None, true, is_some}
+use Rattle.std.specs.Prelude.{◌≡◌, ℕ, ◌<◌, length, Option, Some, None, true, is_some}
 use Rattle.std.specs.List.{AllByRecursion}
 use Rattle.hk_chain.specs.Facts.{FactsView, TraceMark, group, save}
 use Rattle.hk_chain.specs.Kept.{at_place}

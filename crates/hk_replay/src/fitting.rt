@@ -18,11 +18,11 @@ use crate::known::Known;
 use hk_base::{Identifier, NoMemory, Text};
 use hk_chain::{Chain, ItemNo, Step};
 use hk_rules::Plan;
-use hk_store::{AskRecord, Entry, MarkRecord, MatchRecord, fingerprint_digest};
+use hk_store::{AskRecord, Entry, MarkRecord, MatchRecord};
 use std::alloc::Global;
 
-/// Whether an entry fits an item. `NoMemory` only for want of memory. Linear in the item's fingerprint and in the entry
-/// but for the bodies of its pages, and logarithmic for each asked page.
+/// Whether an entry fits an item. `NoMemory` only for want of memory. Linear in the entry but for
+/// the bodies of its pages, and logarithmic for each asked page and each recorded pattern.
 pub(crate) fn fits(
     alloc: Global,
     plan: &Plan,
@@ -34,8 +34,7 @@ pub(crate) fn fits(
     requires item { item < length plan.now.items }
     ensures { IfOk result (λ b. b ≡ spec.fits sha_digests (items_of plan.now) item entry.now) }
 {
-    let print = fingerprint_digest(alloc, plan, item)?;
-    let own = entry.print.as_slice() == print.as_slice();
+    let own = known.has_print(item, &entry.print);
     let names = names_fit(alloc, plan.chain(item), &entry.marks)?;
     let patterns = patterns_fit(plan, known, &entry.patterns);
     let marks = marks_fit(plan, known, &entry.marks);
@@ -104,7 +103,8 @@ fn patterns_fit(plan: &Plan, known: &Known, records: &[MatchRecord]) -> bool
     true
 }
 
-/// Whether a recorded pattern is the plan's, with the matches that it has now. Linear in the patterns' texts and the matches.
+/// Whether a recorded pattern is the plan's, with the matches that it has now. Linear in the text and the matches, with a
+/// logarithmic look-up of the text.
 fn pattern_fits(plan: &Plan, known: &Known, found: &MatchRecord) -> bool
     requires known { IsKnown plan.now known.now }
     ensures { result ≡ spec.pattern_fits (items_of plan.now) found.now }

@@ -2,14 +2,18 @@
 ghost use Rattle.std.specs.Prelude.{◌≡◌, ◌<◌, ℕ, [], length, map, get_or, bytes_eq, IfOk};
 ghost use Rattle.std.specs.List.{position_from};
 ghost use Rattle.hk_rules.specs.Plan.{matches_in};
+ghost use Rattle.hk_rules.specs.Recipe.{recipe_of};
 ghost use Rattle.hk_eval.specs.PlanTable.{traits_at, pattern_texts};
+ghost use Rattle.hk_store.specs.RecipeText.{recipe_text};
 ghost use Rattle.hk_store.specs.Traits.{sha_digests};
 ghost use Rattle.hk_replay.specs.Known.{IsKnown};
 
+use crate::hashing::PageDigests;
+use crate::texts::PatternTexts;
 use hk_base::{NoMemory, Text};
 use hk_chain::{ItemNo, PatternNo};
 use hk_rules::{Plan, text_of_pattern};
-use hk_store::traits_digest;
+use hk_store::{fingerprint_digest, traits_digest};
 use std::alloc::Global;
 use std::marker::Model;
 
@@ -27,12 +31,15 @@ impl Model for Matched {
     ghost view = { λ m. m.items.items };
 }
 
-/// The digest of each item's traits, and each pattern's text and matches.
+/// The digests of each item's fingerprint and traits, each pattern's text and matches, and the digests of pages, as far as
+/// they were wanted.
 #[derive(Drop)]
 pub(crate) struct Known {
+    pub(crate) prints: Vec<[u8; 32]>,
     pub(crate) traits: Vec<[u8; 32]>,
-    pub(crate) texts: Vec<Text>,
+    pub(crate) texts: PatternTexts,
     pub(crate) matches: Vec<Matched>,
+    pub(crate) digests: PageDigests,
 }
 
 impl Model for Known {
@@ -40,30 +47,34 @@ impl Model for Known {
 
     ghost Value = { KnownView };
 
-    ghost view = { λ k. record { traits = k.traits.items; texts = k.texts.items; matches = k.matches.items } };
+    ghost view = { λ k. record { prints = k.prints.items; traits = k.traits.items; texts = k.texts; matches = k.matches.items } };
 }
 
 impl Known {
-    /// What is known of a plan. `NoMemory` only for want of memory. Linear in the items' metadata and the patterns' texts;
-    /// each pattern is matched once.
+    /// What is known of a plan. `NoMemory` only for want of memory. Linear in the items' fingerprints and metadata, each of
+    /// which is hashed once, in the pairs and in the patterns' texts; each pattern is matched once.
     pub(crate) fn of(alloc: Global, plan: &Plan) -> Result<Known, NoMemory>
         ensures { IfOk result (λ k. IsKnown plan.now k) }
     {
+        let prints = all_prints(alloc, plan)?;
         let traits = all_traits(alloc, plan)?;
-        let texts = texts_of(alloc, plan)?;
+        let texts = PatternTexts::of(alloc, texts_of(alloc, plan)?)?;
         let matches = matches_of(alloc, plan)?;
+        let digests = PageDigests::new(alloc, plan.layout().get().pairs())?;
         Ok(Known {
+            prints,
             traits,
             texts,
             matches,
+            digests,
         })
     }
 
-    /// The first place of a pattern's text. Linear in the texts.
+    /// The first place of a pattern's text. Logarithmic in the number of patterns.
     pub(crate) fn place(&self, text: &[u8]) -> Option<usize>
         ensures { result ≡ position_from (λ own. bytes_eq own text.now) 0 self.now.texts }
     {
-        place_of(&self.texts, text)
+        self.texts.place(text)
     }
 
     /// The items that the pattern at a place matches. Constant.
@@ -79,7 +90,23 @@ impl Known {
         requires { place < length self.now.texts }
         ensures { result.now ≡ get_or self.now.texts place [] }
     {
-        self.texts[place].as_slice()
+        self.texts.text(place)
+    }
+
+    /// The digest of an item's fingerprint. Constant.
+    pub(crate) fn print_of(&self, item: ItemNo) -> [u8; 32]
+        requires { item < length self.now.prints }
+        ensures { result ≡ get_or self.now.prints item [] }
+    {
+        self.prints[item.0 as usize]
+    }
+
+    /// Whether an item's fingerprint has this digest. Constant.
+    pub(crate) fn has_print(&self, item: ItemNo, digest: &[u8; 32]) -> bool
+        requires { item < length self.now.prints }
+        ensures { result ≡ bytes_eq digest.now (get_or self.now.prints item []) }
+    {
+        digest.as_slice() == self.prints[item.0 as usize].as_slice()
     }
 
     /// The digest of an item's traits. Constant.
@@ -99,16 +126,18 @@ impl Known {
     }
 }
 
-/// The first place of a text.
-fn place_of(texts: &[Text], text: &[u8]) -> Option<usize>
-    ensures { result ≡ position_from (λ own. bytes_eq own text.now) 0 texts.now }
+/// The digests of the items' fingerprints, each computed once.
+fn all_prints(alloc: Global, plan: &Plan) -> Result<Vec<[u8; 32]>, NoMemory>
+    ensures count { IfOk result (λ v. length v.items ≡ length plan.now.items) }
+    ensures each { IfOk result (λ v. (item : ℕ) → item < length plan.now.items
+        → get_or v.items item [] ≡ sha_digests.text (recipe_text (recipe_of plan.now item))) }
 {
-    for place in 0..texts.len() {
-        if texts[place].as_slice() == text {
-            return Some(place);
-        }
+    let mut prints = Vec::new(alloc);
+    for number in 0..plan.count() {
+        let digest = fingerprint_digest(alloc, plan, ItemNo(number))?;
+        prints.push(digest)?;
     }
-    None
+    Ok(prints)
 }
 
 /// The digests of the items' traits, each computed once.

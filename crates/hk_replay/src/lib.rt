@@ -15,11 +15,12 @@ mod numbering;
 mod record;
 mod renewing;
 mod replay;
+mod sends;
 mod storing;
+mod texts;
 mod way;
 
 pub use maker::ReplayMaker;
 pub use named::{plans_have_items, records_are_entries};
 pub use record::{Record, Records, Step};
 pub use replay::{Held, Replay};
-pub use storing::make_stored;

@@ -5,7 +5,7 @@ ghost use Rattle.hk_replay.specs.Finding.{Finds, told_page};
 ghost use Rattle.hk_replay.specs.Replays.{digest, same_pages, passed, kept_by, Passes};
 ghost use Rattle.hk_eval.specs.Told.{told_pages, AllTold};
 
-use crate::hashing::digest_of;
+use crate::hashing::PageDigests;
 use crate::record::Step;
 use hk_base::NoMemory;
 use hk_chain::{PageRef, PairNo};
@@ -28,6 +28,7 @@ pub(crate) enum Found {
 /// Passes over the groups whose pages are told and have the recorded digests.
 pub(crate) fn look(
     alloc: Global,
+    known: &PageDigests,
     steps: &[Step],
     told: &Told,
     at: &mut usize,
@@ -49,7 +50,7 @@ pub(crate) fn look(
                 if !lacks.is_empty() {
                     return Ok(Found::Asks(lacks));
                 }
-                let is_same = are_same(alloc, told, pairs.as_slice(), digests.as_slice())?;
+                let is_same = are_same(alloc, known, told, pairs.as_slice(), digests.as_slice())?;
                 if !is_same {
                     return Ok(Found::Breaks);
                 }
@@ -63,6 +64,7 @@ pub(crate) fn look(
 /// Whether the told pages of some pairs have these digests. `NoMemory` only for want of memory.
 fn are_same(
     alloc: Global,
+    known: &PageDigests,
     told: &Told,
     pairs: &[PairNo],
     digests: &[[u8; 32]],
@@ -74,7 +76,7 @@ fn are_same(
         if i >= digests.len() {
             return Ok(false);
         }
-        let is_same = has_digest(alloc, told, pairs[i], &digests[i])?;
+        let is_same = has_digest(alloc, known, told, pairs[i], &digests[i])?;
         if !is_same {
             return Ok(false);
         }
@@ -83,13 +85,19 @@ fn are_same(
 }
 
 /// Whether the told page of a pair has this digest.
-fn has_digest(alloc: Global, told: &Told, pair: PairNo, wanted: &[u8; 32]) -> Result<bool, NoMemory>
+fn has_digest(
+    alloc: Global,
+    known: &PageDigests,
+    told: &Told,
+    pair: PairNo,
+    wanted: &[u8; 32],
+) -> Result<bool, NoMemory>
     requires { is_some (told_pages told.now pair) ≡ true }
     ensures { IfOk result (λ b. b ≡ bytes_eq (digest (told_page (told_pages told.now) pair)) wanted.now) }
 {
     let Some(page) = told.get(pair) else {
         unreachable!();
     };
-    let now = digest_of(alloc, page.get())?;
+    let now = known.digest(alloc, pair, page)?;
     Ok(now.as_slice() == wanted.as_slice())
 }

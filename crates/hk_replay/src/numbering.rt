@@ -26,20 +26,26 @@ use hk_store::{AskRecord, Entry, MarkRecord, MatchRecord, Stored};
 use std::alloc::Global;
 
 /// The records of a plan's items: of each that has an entry that fits. `NoMemory` only for want of memory. Linear in the
-/// items' fingerprints and metadata and in the store but for the bodies of its pages, which are shared; logarithmic for
-/// each entry and each asked page. Each fingerprint and each item's traits are hashed once.
-pub(crate) fn records_of(alloc: Global, plan: &Plan, stored: &Stored) -> Result<Records, NoMemory>
+/// items and in the store but for the bodies of its pages, which are shared; logarithmic for each entry, each asked page
+/// and each recorded pattern. Nothing is hashed.
+pub(crate) fn records_of(
+    alloc: Global,
+    plan: &Plan,
+    known: &Known,
+    stored: &Stored,
+) -> Result<Records, NoMemory>
+    requires known { IsKnown plan.now known.now }
     ensures { IfOk result (λ r. AreNumbered sha_digests (items_of plan.now) (entries_in stored.now) r) }
 {
     plan.linked();
-    let known = Known::of(alloc, plan)?;
     let mut by_item = no_records(alloc, plan.count())?;
     let mut at = stored.entries.len();
     while at > 0 {
         at -= 1;
-        add_record(alloc, plan, &known, &stored.entries[at], &mut by_item)?;
+        add_record(alloc, plan, known, &stored.entries[at], &mut by_item)?;
     }
-    Ok(Records { by_item })
+    let digests = known.digests.try_clone()?;
+    Ok(Records { by_item, digests })
 }
 
 fn no_records(alloc: Global, count: u32) -> Result<Vec<Option<Record>>, NoMemory>
@@ -210,7 +216,7 @@ fn numbers_of(
     Ok(numbers)
 }
 
-/// The number of a recorded pattern, and the first where there is none. Linear in the patterns' texts.
+/// The number of a recorded pattern, and the first where there is none. Logarithmic in the number of patterns.
 fn number_of(known: &Known, found: &MatchRecord) -> Result<PatternNo, NoMemory>
     ensures { IfOk result (λ p. p ≡ unwrap_or (position_from (λ own. bytes_eq own found.now.text) 0 known.now.texts) 0) }
 {

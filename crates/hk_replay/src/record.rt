@@ -1,4 +1,5 @@
 // What is stored of the items' runs, in the numbers of a plan.
+use crate::hashing::PageDigests;
 use hk_chain::{PageRef, PairNo, PatternNo};
 
 /// A step of a recorded run: a group of pairs that were asked for at once, with the digests of their pages, or a page that
@@ -18,8 +19,9 @@ pub struct Record {
     pub page: PageRef,
 }
 
-/// The records of a plan's items, by item.
+/// The records of a plan's items, by item, and the digests of the pages that answers are compared by.
 #[derive(Drop)]
 pub struct Records {
     pub by_item: Vec<Option<Record>>,
+    pub(crate) digests: PageDigests,
 }

@@ -4,7 +4,7 @@ ghost use Rattle.hk_chain.specs.Kept.{at_place};
 ghost use Rattle.hk_fix.specs.Pages.{all_pages};
 ghost use Rattle.hk_replay.specs.Renewing.{agree, is_passed, is_kept, others_below};
 
-use crate::hashing::digest_of;
+use crate::hashing::PageDigests;
 use crate::record::{Record, Records, Step};
 use crate::way::record_of;
 use hk_base::NoMemory;
@@ -22,7 +22,12 @@ pub(crate) fn others_of(
 {
     let mut others = Vec::new(alloc);
     for number in 0..count {
-        let has_kept = goes_through(alloc, record_of(records, ItemNo(number)), pages)?;
+        let has_kept = goes_through(
+            alloc,
+            &records.digests,
+            record_of(records, ItemNo(number)),
+            pages,
+        )?;
         if !has_kept {
             others.push(ItemNo(number))?;
         }
@@ -33,23 +38,29 @@ pub(crate) fn others_of(
 /// Whether there is a record, and it goes through.
 fn goes_through(
     alloc: Global,
+    known: &PageDigests,
     recorded: Option<&Record>,
     pages: &[Option<PageRef>],
 ) -> Result<bool, NoMemory>
     ensures { IfOk result (λ b. b ≡ is_kept (at_place pages.now) (option_copied recorded.entry)) }
 {
     match recorded {
-        Some(recorded) => are_passed(alloc, &recorded.steps, pages),
+        Some(recorded) => are_passed(alloc, known, &recorded.steps, pages),
         None => Ok(false),
     }
 }
 
 /// Whether the pages of all groups are known and have the recorded digests.
-fn are_passed(alloc: Global, steps: &[Step], pages: &[Option<PageRef>]) -> Result<bool, NoMemory>
+fn are_passed(
+    alloc: Global,
+    known: &PageDigests,
+    steps: &[Step],
+    pages: &[Option<PageRef>],
+) -> Result<bool, NoMemory>
     ensures { IfOk result (λ b. b ≡ is_passed (at_place pages.now) steps.now) }
 {
     for step in steps {
-        let is_same = step_passes(alloc, step, pages)?;
+        let is_same = step_passes(alloc, known, step, pages)?;
         if !is_same {
             return Ok(false);
         }
@@ -57,11 +68,16 @@ fn are_passed(alloc: Global, steps: &[Step], pages: &[Option<PageRef>]) -> Resul
     Ok(true)
 }
 
-fn step_passes(alloc: Global, step: &Step, pages: &[Option<PageRef>]) -> Result<bool, NoMemory>
+fn step_passes(
+    alloc: Global,
+    known: &PageDigests,
+    step: &Step,
+    pages: &[Option<PageRef>],
+) -> Result<bool, NoMemory>
     ensures { IfOk result (λ b. b ≡ is_passed (at_place pages.now) (step.now ∷ [])) }
 {
     match step {
-        Step::Asked(pairs, digests) => group_agrees(alloc, pairs, digests, pages),
+        Step::Asked(pairs, digests) => group_agrees(alloc, known, pairs, digests, pages),
         Step::Saved(_, _) => Ok(true),
     }
 }
@@ -69,6 +85,7 @@ fn step_passes(alloc: Global, step: &Step, pages: &[Option<PageRef>]) -> Result<
 /// Whether the pages of a group are known and have these digests.
 fn group_agrees(
     alloc: Global,
+    known: &PageDigests,
     pairs: &[PairNo],
     digests: &[[u8; 32]],
     pages: &[Option<PageRef>],
@@ -79,7 +96,7 @@ fn group_agrees(
         if i >= digests.len() {
             return Ok(false);
         }
-        let is_same = page_agrees(alloc, pairs[i], &digests[i], pages)?;
+        let is_same = page_agrees(alloc, known, pairs[i], &digests[i], pages)?;
         if !is_same {
             return Ok(false);
         }
@@ -90,6 +107,7 @@ fn group_agrees(
 /// Whether the page of a pair is known and has this digest.
 fn page_agrees(
     alloc: Global,
+    known: &PageDigests,
     pair: PairNo,
     wanted: &[u8; 32],
     pages: &[Option<PageRef>],
@@ -98,7 +116,7 @@ fn page_agrees(
 {
     match pages.get(pair.0 as usize) {
         Some(Some(page)) => {
-            let now = digest_of(alloc, page.get())?;
+            let now = known.digest(alloc, pair, page)?;
             Ok(now.as_slice() == wanted.as_slice())
         }
         _ => Ok(false),

@@ -17,29 +17,34 @@ ghost use Rattle.hk_replay.specs.Known.{IsKnown};
 ghost use Rattle.hk_replay.specs.PlanItems.{items_of};
 ghost use Rattle.hk_replay.specs.Storing.{AreStorable, CanStore, HasPage, HavePages, facts_by};
 
-use crate::hashing::digest_of;
 use crate::known::Known;
 use hk_base::{Identifier, NoMemory, Text};
 use hk_chain::{Facts, ItemNo, Mark, PageRef, PairNo, PatternNo};
 use hk_fix::{Outcome, Results};
 use hk_rules::Plan;
-use hk_store::{AskRecord, Entry, MarkRecord, MatchRecord, SaveRecord, Stored, fingerprint_digest};
+use hk_store::{AskRecord, Entry, MarkRecord, MatchRecord, SaveRecord, Stored};
 use std::alloc::Global;
 
-/// The entries of the items that are done, in order. `NoMemory` only for want of memory. Linear in the items' fingerprints
-/// and metadata, in the matches of their patterns and in the asked pages, which are hashed; saved pages are shared.
-pub fn make_stored(alloc: Global, plan: &Plan, results: &Results) -> Result<Stored, NoMemory>
-    requires { CanStore plan.now results.now }
+/// The entries of the items that are done, in order. `NoMemory` only for want of memory. Linear in the items,
+/// in the matches of their patterns and in the asked pages, each of which is hashed where it wasn't yet; saved pages are
+/// shared.
+pub(crate) fn make_stored(
+    alloc: Global,
+    plan: &Plan,
+    known: &Known,
+    results: &Results,
+) -> Result<Stored, NoMemory>
+    requires known { IsKnown plan.now known.now }
+    requires results { CanStore plan.now results.now }
     ensures { IfOk result (λ s. s ≡ entry_list sha_digests (items_of plan.now) (ending_at results.now.outcomes) (at_place results.now.pages)) }
 {
     plan.linked();
     let count = plan.count();
-    let known = Known::of(alloc, plan)?;
     let mut entries = Vec::new(alloc);
     for number in 0..count {
         let item = ItemNo(number);
         if let Some(facts) = done_facts(&results.outcomes, item) {
-            let entry = entry_of(alloc, plan, &known, &results.pages, item, facts)?;
+            let entry = entry_of(alloc, plan, known, &results.pages, item, facts)?;
             entries.push(entry)?;
         }
     }
@@ -73,7 +78,7 @@ fn entry_of(
     ensures { IfOk result (λ e. e ≡ entry_with sha_digests (items_of plan.now) (ending_at []) (at_place pages.now) item facts.now) }
 {
     let id = plan.id(item).copy(alloc)?;
-    let print = fingerprint_digest(alloc, plan, item)?;
+    let print = known.print_of(item);
     let patterns = patterns_of(alloc, plan, known, &facts.patterns)?;
     let marks = marks_of(alloc, plan, known, pages, &facts.trace)?;
     Ok(Entry {
@@ -219,7 +224,7 @@ fn ask_of(
     let item = plan.layout().get().item_of(pair);
     let id = plan.id(item).copy(alloc)?;
     let name = Text::from_slice(alloc, plan.pair_name(pair))?;
-    let page = digest_of(alloc, page_of(pages, pair).get())?;
+    let page = known.digests.digest(alloc, pair, page_of(pages, pair))?;
     let traits = known.traits_of(item);
     Ok(AskRecord {
         id,

@@ -87,7 +87,13 @@ pub(crate) fn go_record<M: Compiler>(
     let Some(found) = record_of(records, way.inner.item()) else {
         unreachable!();
     };
-    match look(alloc, found.steps.as_slice(), &way.told, &mut way.at)? {
+    match look(
+        alloc,
+        &records.digests,
+        found.steps.as_slice(),
+        &way.told,
+        &mut way.at,
+    )? {
         Found::Saves(pair, page) => {
             way.at += 1;
             way.given += 1;

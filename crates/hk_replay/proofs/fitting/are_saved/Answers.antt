@@ -1,5 +1,4 @@
 use Rattle.std.proofs.Common.{◌≡◌, sym, ap, ◌∙◌, map, drop, ◌∷◌, ◌+◌}
-use Rattle.std.specs.Cmp.Lexicographic.{pointwise}
 use Rattle.hk_store.specs.Marks.{mark_view}
 use Rattle.hk_store.specs.declared.entry.MarkRecord.{MarkRecord}
 use Rattle.hk_reuse.specs.Entries.{saved_names}

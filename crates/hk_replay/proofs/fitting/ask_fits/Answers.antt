@@ -1,4 +1,4 @@
-use Rattle.std.proofs.Common.{◌≡◌, sym, ap, subst, ◌∙◌, arith, false, ◌&&◌, is_some, length}
+use Rattle.std.proofs.Common.{◌≡◌, sym, ap, subst, ◌∙◌, arith, false, ◌&&◌, is_some}
 use Rattle.std.specs.Prelude.{bytes_eq}
 use Rattle.hk_eval.specs.PlanTable.{table_of}
 use Rattle.hk_rules.specs.Plan.{lookups}

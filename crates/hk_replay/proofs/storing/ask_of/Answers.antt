@@ -33,7 +33,7 @@ returns c =
     let own : item ≡ pair_owner plan pair = c.item_of-item.ensures.value ∙ ap (λ (l : Shape). item_of l pair) (c.get.ensures ∙ (c.layout.ensures ∙ layout-lookups plan)) in
     let id : c.in_ok-id.id ≡ id_at plan (pair_owner plan pair) = c.in_ok-id.ensures ∙ (c.id.ensures ∙ (id-same plan item ∙ ap (id_at plan) own)) in
     let name : c.in_ok-name.name ≡ pair_name_of plan pair = c.in_ok-name.ensures ∙ (c.pair_name.ensures ∙ name-same plan pair) in
-    let page : c.in_ok-page.page ≡ sha_digests.page (page_at k pair) = c.in_ok-page.ensures ∙ ap sha_digests.page (c.get-2.ensures ∙ sym (ap (λ o. unwrap_or o blank_page) c.page_of.ensures)) in
+    let page : c.in_ok-page.page ≡ sha_digests.page (page_at k pair) = c.in_ok-page.ensures ∙ ap sha_digests.page (sym (ap (λ o. unwrap_or o blank_page) c.page_of.ensures)) in
     let traits : c.traits_of-traits.result ≡ sha_digests.traits (table.traits (id_at plan (pair_owner plan pair))) = c.traits_of-traits.ensures ∙ (c.requires.known.traits item lt ∙ ap sha_digests.traits (sym (traits-own plan c.requires.form item lt) ∙ ap (λ i. table.traits (id_at plan i)) own)) in
     (λ i. (let a : AskView = record { key = record { id = id i; name = name i }; page = page i; traits = traits i } in a))
     ∙ ap (λ (key : Key). (let a : AskView = record { key = key; page = sha_digests.page (page_at k pair); traits = sha_digests.traits (table.traits key.id) } in a)) (sym (key-same plan pair))

@@ -1,4 +1,4 @@
-use Rattle.std.proofs.Common.{◌≡◌, sym, ap, ◌∙◌, ℕ, ◌∷◌, ◌++◌, [], map, take, List}
+use Rattle.std.proofs.Common.{sym, ap, ◌∙◌, ℕ, ◌∷◌, ◌++◌, [], map, take, List}
 use Rattle.hk_base.specs.Identifier.{Ident}
 use Rattle.hk_rules.specs.Plan.{id_at}
 use Rattle.hk_replay.proofs.Matching.{id-same, map-turn}

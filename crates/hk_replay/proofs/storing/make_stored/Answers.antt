@@ -27,7 +27,7 @@ entry_of-requires-clause-facts c =
     let pages : c.deref-in-Some.result.now ≡ results.pages = c.deref-in-Some.ensures.value ∙ ap (λ (r : ResultsView). r.pages) c.results.view_is in
     let outcomes : map outcome_view c.deref.result.now ≡ results.outcomes = ap (map outcome_view) c.deref.ensures.value ∙ ap (λ (r : ResultsView). r.outcomes) c.results.view_is in
     let done : facts_by (ending_at results.outcomes n) ≡ Some c.in-Some.facts.now = sym (c.done_facts.ensures ∙ ap (λ (l : List Ending). facts_by (ending_at l n)) outcomes) ∙ ap option_copied c.in-Some.is in
-    subst (λ (l : List (Option Page)). AreStorable plan (at_place l) c.in-Some.facts.now) (sym pages) (c.requires n c.in-Some.facts.now (omega (arith, c.loop-number-test.true, c.count-count.ensures.items)) done)
+    subst (λ (l : List (Option Page)). AreStorable plan (at_place l) c.in-Some.facts.now) (sym pages) (c.requires.results n c.in-Some.facts.now (omega (arith, c.loop-number-test.true, c.count-count.ensures.items)) done)
 
 pub loop-number-preserved : goal.loop-number-preserved
 loop-number-preserved c =

@@ -2,7 +2,7 @@ use Rattle.std.proofs.Common.{◌≡◌, sym, ap, subst, ◌∙◌, ◌<◌, ℕ
 use Rattle.std.specs.List.{AllByRecursion}
 use Rattle.hk_base.specs.Bytes.{Bytes}
 use Rattle.hk_eval.specs.PlanTable.{table_of}
-use Rattle.hk_rules.specs.Plan.{id_at, matches_in, pattern_at}
+use Rattle.hk_rules.specs.Plan.{id_at, pattern_at}
 use Rattle.hk_rules.proofs.ItemNumbers.{matches_in-below}
 use Rattle.hk_store.specs.Entry.{MatchView}
 use Rattle.hk_replay.proofs.Leaving.{matches-own, pattern-own, text-at}
