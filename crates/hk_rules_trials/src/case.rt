@@ -1,4 +1,5 @@
 // A rules file with its folder, part by part.
+use crate::generated::generated_text;
 use crate::plans::plan_text;
 use crate::rules::rules_text;
 use hk_base::{NoMemory, Text};
@@ -21,12 +22,14 @@ impl<'a> Case<'a> {
         }
     }
 
-    /// What a part comes to. A part is a line and a text: `rules` and a rules file, `file` with a path and what it holds, or
-    /// `plan` and nothing.
+    /// What a part comes to. A part is a line and a text: `rules` and a rules file, `file` with a path and what it holds,
+    /// `plan` and nothing, or `generated` with the two numbers of a generated site and nothing.
     pub fn answer(&mut self, alloc: Global, part: &'a str) -> Result<String, Fail> {
         let (head, text) = part.split_once('\n').unwrap_or((part, ""));
         if let Some(path) = head.strip_prefix("file ") {
             self.add_file(alloc, path, text)?;
+        } else if let Some(numbers) = head.strip_prefix("generated ") {
+            return generated_text(alloc, numbers);
         } else if head == "rules" {
             self.rules = text;
             return rules_text(alloc, text);

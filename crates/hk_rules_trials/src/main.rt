@@ -1,8 +1,9 @@
-//! Trials of the crates of rules and plans: reads rules files with their folders, and prints what the rules are read as and
-//! what a plan tells.
+//! Trials of the crates of rules and plans and of the generated site: reads rules files with their folders, and prints what
+//! the rules are read as and what a plan tells.
 #![tactic(auto)]
 
 mod case;
+mod generated;
 mod plans;
 mod rules;
 

@@ -1,6 +1,6 @@
 // Words and the command that they are.
 use hk_base::NoMemory;
-use hk_words::{BuildOptions, Command, command, usage_text};
+use hk_words::{BuildOptions, Command, GenerateOptions, command, usage_text};
 use std::alloc::Global;
 use std::test::Fail;
 
@@ -17,44 +17,101 @@ fn build(workers: u32, trace: bool) -> Command {
     Command::Build(BuildOptions { workers, trace })
 }
 
+fn rebuild(workers: u32, trace: bool) -> Command {
+    Command::Rebuild(BuildOptions { workers, trace })
+}
+
+fn generate(number: u32, count: u32, workers: u32) -> Command {
+    Command::Generate(GenerateOptions {
+        number,
+        count,
+        workers,
+    })
+}
+
 #[test]
-fn words_are_a_command_or_none(rt: HostRuntime) -> Result<(), Fail> {
+fn words_are_a_command(rt: HostRuntime) -> Result<(), Fail> {
     for (line, wanted) in [
-        ("build", Some(build(1, false))),
-        ("build --trace", Some(build(1, true))),
-        ("build --workers=2 --trace", Some(build(2, true))),
-        ("build --trace --workers 0000000064", Some(build(64, true))),
-        ("check", Some(Command::Check)),
-        ("", None),
-        ("make", None),
-        ("Build", None),
-        ("--build", None),
-        ("help", None),
-        ("--help", None),
-        ("build -h", None),
-        ("build --help", None),
-        ("build --", None),
-        ("build --x", None),
-        ("build check", None),
-        ("build --workers", None),
-        ("build --workers 0", None),
-        ("build --workers 65", None),
-        ("build --trace --trace", None),
-        ("build --trace=x", None),
-        ("build --workers 00000000002", None),
-        ("build --workers +2", None),
-        ("check --workers 2", None),
-        ("check --trace", None),
-        ("check x", None),
-        ("check -- x", None),
+        ("build", build(1, false)),
+        ("build --trace", build(1, true)),
+        ("build --workers=2 --trace", build(2, true)),
+        ("build --trace --workers 0000000064", build(64, true)),
+        ("rebuild", rebuild(1, false)),
+        ("rebuild --trace --workers=64", rebuild(64, true)),
+        ("check", Command::Check),
+        ("deps", Command::Deps),
+        ("clean", Command::Clean),
+        ("gen 7 2000", generate(7, 2000, 1)),
+        ("gen 7 --workers 3 2000", generate(7, 2000, 3)),
+        ("gen --workers=64 0 1", generate(0, 1, 64)),
+        ("gen 4294967295 0000020000", generate(u32::MAX, 20_000, 1)),
     ] {
-        assert!(rt; read(rt.alloc(), line)? == wanted, "{line}");
+        assert!(rt; read(rt.alloc(), line)? == Some(wanted), "{line}");
     }
     Ok(())
 }
 
 #[test]
-fn usage_has_a_line_for_each_command(rt: HostRuntime) {
-    let text: &[u8] = b"usage: hakyll_cli build [--workers N] [--trace]\n       hakyll_cli check\n";
-    assert_eq!(rt; usage_text(), text);
+fn other_words_are_none(rt: HostRuntime) -> Result<(), Fail> {
+    for line in [
+        "",
+        "make",
+        "Build",
+        "--build",
+        "help",
+        "--help",
+        "build -h",
+        "build --help",
+        "build --",
+        "build --x",
+        "build check",
+        "build --workers",
+        "build --workers 0",
+        "build --workers 65",
+        "build --trace --trace",
+        "build --trace=x",
+        "build --workers 00000000002",
+        "build --workers +2",
+        "check --workers 2",
+        "check --trace",
+        "check x",
+        "check -- x",
+        "rebuild x",
+        "rebuild --workers 65",
+        "deps --trace",
+        "deps x",
+        "clean --workers 1",
+        "clean x",
+        "gen",
+        "gen 7",
+        "gen 7 0",
+        "gen 7 20001",
+        "gen 4294967296 1",
+        "gen 7 1 1",
+        "gen -7 1",
+        "gen 7 1 --trace",
+        "gen 7 1 --workers 65",
+        "gen 7 1 --",
+    ] {
+        assert!(rt; read(rt.alloc(), line)?.is_none(), "{line}");
+    }
+    Ok(())
+}
+
+#[test]
+fn usage_has_a_line_for_each_command(rt: HostRuntime) -> Result<(), Fail> {
+    let lines = [
+        "usage: hakyll_cli build [--workers N] [--trace]\n",
+        "       hakyll_cli rebuild [--workers N] [--trace]\n",
+        "       hakyll_cli check\n",
+        "       hakyll_cli deps\n",
+        "       hakyll_cli clean\n",
+        "       hakyll_cli gen NUMBER COUNT [--workers N]\n",
+    ];
+    let mut text = String::new(rt.alloc());
+    for line in lines {
+        text.push_str(line)?;
+    }
+    assert_eq!(rt; usage_text(), text.as_bytes());
+    Ok(())
 }

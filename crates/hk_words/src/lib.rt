@@ -8,6 +8,6 @@ mod numbers;
 mod usage;
 mod words;
 
-pub use commands::{BuildOptions, Command};
+pub use commands::{BuildOptions, Command, GenerateOptions};
 pub use usage::usage_text;
 pub use words::command;

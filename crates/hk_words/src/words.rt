@@ -5,16 +5,17 @@ ghost use Rattle.hk_words.specs.Given.{given};
 ghost use Rattle.hk_words.specs.Words as spec;
 
 use crate::arguments::Arguments;
-use crate::commands::{BuildOptions, Command};
+use crate::commands::{BuildOptions, Command, GenerateOptions};
 use crate::leaf::read_matched;
 use hk_base::NoMemory;
 use std::alloc::Global;
 
 /// The command that the words are, or `None` exactly where they are none.
 ///
-/// The first word is the command's name, `build` or `check`. After it stand its options, in any order and each at most
-/// once, and its operands. `build` takes `--workers`, with the next word or what follows `=`, and `--trace`; `check` takes
-/// nothing. Workers are a number from 1 to 64 in one to ten digits, and one where none is given. Any other word, as `--`,
+/// The first word is the command's name. After it stand its options, in any order and each at most once, and its operands.
+/// `build` and `rebuild` take `--workers`, with the next word or what follows `=`, and `--trace`; `check`, `deps` and
+/// `clean` take nothing; `gen` takes two operands, NUMBER and COUNT, and `--workers`. Numbers are one to ten digits:
+/// NUMBER 0 to 4,294,967,295, COUNT 1 to 20,000, and workers 1 to 64, one where none are given. Any other word, as `--`,
 /// `-h`, `--help` or a repeated option, makes the words no command.
 ///
 /// `NoMemory` only for want of memory. Linear in the bytes of the words.
@@ -51,23 +52,42 @@ fn named(name: &str, arguments: &Arguments) -> Option<Command>
     ensures { result ≡ spec.named name.now arguments.now }
 {
     match name {
-        "build" => build(arguments),
+        "build" => Some(Command::Build(build_options(arguments)?)),
+        "rebuild" => Some(Command::Rebuild(build_options(arguments)?)),
         "check" => alone(Command::Check, arguments),
+        "deps" => alone(Command::Deps, arguments),
+        "clean" => alone(Command::Clean, arguments),
+        "gen" => Some(Command::Generate(generate_options(arguments)?)),
         _ => None,
     }
 }
 
-/// A build, which takes `--workers` and `--trace`.
-fn build(arguments: &Arguments) -> Option<Command>
-    ensures { result ≡ spec.build_of arguments.now }
+/// The options of a build, which takes `--workers` and `--trace`.
+fn build_options(arguments: &Arguments) -> Option<BuildOptions>
+    ensures { result ≡ spec.build_options arguments.now }
 {
     if arguments.operands.is_some() {
         return None;
     }
-    Some(Command::Build(BuildOptions {
+    Some(BuildOptions {
         workers: workers_or_one(arguments.workers),
         trace: arguments.trace,
-    }))
+    })
+}
+
+/// The options of `gen`, which takes two numbers and `--workers`.
+fn generate_options(arguments: &Arguments) -> Option<GenerateOptions>
+    ensures { result ≡ spec.generate_options arguments.now }
+{
+    if arguments.trace {
+        return None;
+    }
+    let operands = arguments.operands?;
+    Some(GenerateOptions {
+        number: operands.number,
+        count: operands.count,
+        workers: workers_or_one(arguments.workers),
+    })
 }
 
 fn workers_or_one(workers: Option<u32>) -> u32

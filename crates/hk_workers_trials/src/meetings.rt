@@ -23,21 +23,25 @@ fn two_items(alloc: Global) -> Result<Layout, NoMemory>
 fn pool<R: Threads + Wait + Sync>(
     rt: &R,
     alloc: Global,
+    early: bool,
     gate: &Meeting,
 ) -> Result<Results, NoMemory> {
     let layout = Shared::new(alloc, two_items(alloc)?)?;
     let kept = Kept::none(alloc, layout.get())?;
-    let maker = MutualMaker { early: true };
+    let maker = MutualMaker { early };
     run_pool(rt, alloc, layout, kept, &maker, 2, gate)
 }
 
+/// Compilers that save before they ask are polled three times each, and those that ask at once are polled once.
 #[test]
 fn two_polls_run_side_by_side(rt: HostRuntime) -> Result<(), Fail> {
-    let gate = Meeting::new();
-    let results = pool(&rt, rt.alloc(), &gate)?;
-    assert_eq!(rt; results.outcomes.len(), 2);
-    assert!(rt; gate.was_held());
-    assert_eq!(rt; gate.calls().enters(), [3, 3, 0]);
-    assert_eq!(rt; gate.calls().leaves(), [3, 3, 0]);
+    for (early, polls) in [(true, 3), (false, 1)] {
+        let gate = Meeting::new();
+        let results = pool(&rt, rt.alloc(), early, &gate)?;
+        assert_eq!(rt; results.outcomes.len(), 2);
+        assert!(rt; gate.was_held());
+        assert_eq!(rt; gate.calls().enters(), [polls, polls, 0]);
+        assert_eq!(rt; gate.calls().leaves(), [polls, polls, 0]);
+    }
     Ok(())
 }

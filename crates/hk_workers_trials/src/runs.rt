@@ -103,7 +103,7 @@ fn rounds_of_groups<R: Threads + Sync>(
 #[test]
 fn any_number_of_workers_gives_the_same(rt: HostRuntime) -> Result<(), Fail> {
     let alloc = rt.alloc();
-    for workers in [1, 2, 4, 16] {
+    for workers in [1, 2, 3, 16, 64] {
         for _ in 0..20 {
             let through = pool(&rt, alloc, true, workers)?;
             assert_eq!(rt; printed(alloc, &through)?.as_str(), "done 1;done 1;xxxx 6");
@@ -125,7 +125,7 @@ fn any_number_of_workers_gives_the_same(rt: HostRuntime) -> Result<(), Fail> {
 #[test]
 fn rounds_give_the_same(rt: HostRuntime) -> Result<(), Fail> {
     let alloc = rt.alloc();
-    for workers in [1, 2, 4, 16] {
+    for workers in [1, 2, 3, 16, 64] {
         let through = rounds(&rt, alloc, true, workers)?;
         assert_eq!(rt; printed(alloc, &through)?.as_str(), "done 1;done 1;xxxx 6");
         let stuck = rounds(&rt, alloc, false, workers)?;

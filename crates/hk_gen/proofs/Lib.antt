@@ -1,0 +1,3 @@
+mod Turns
+mod Digits
+pub mod Trailer
