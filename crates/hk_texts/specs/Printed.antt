@@ -7,6 +7,8 @@ use Rattle.hk_rules.specs.RulesFault.{RulesFault}
 use Rattle.hk_rules.specs.RulesFault.TheVariants.{TooLong, NotToml, BadRule, TooManyRules, BadContext, DoubleSnapshot, UnknownContext}
 use Rattle.hk_rules.specs.declared.plan_fault.PlanFault.{PlanFault}
 use Rattle.hk_rules.specs.declared.plan_fault.PlanFault.TheVariants.{BadName, TooManyItems, BadHeader, BadTarget, SameTarget, NestedTarget}
+use Rattle.hk_store.specs.declared.damage.StoreDamage.{StoreDamage}
+use Rattle.hk_store.specs.declared.damage.StoreDamage.TheVariants.{BadTrailer, BadShape, OldVersion}
 
 abbrev pub absent_line : Bytes
 absent_line = codes "site.toml: absent\n"
@@ -56,8 +58,29 @@ read_fault_line = codes "source cannot be read\n"
 abbrev pub write_fault_line : Bytes
 write_fault_line = codes "site cannot be written\n"
 
-abbrev pub summary : ℕ → ℕ → ℕ → Bytes
-summary compiled written removed = codes "compiled " ++ (decimal compiled ++ (codes ", reused 0, written " ++ (decimal written ++ (codes ", removed " ++ (decimal removed ++ codes "\n")))))
+abbrev pub store_unread_line : Bytes
+store_unread_line = codes "store cannot be read\n"
+
+abbrev pub store_unwritten_line : Bytes
+store_unwritten_line = codes "store cannot be written\n"
+
+abbrev pub store_unremoved_line : Bytes
+store_unremoved_line = codes "store cannot be removed\n"
+
+-- why a store counts as one without entries
+abbrev pub damage_line : StoreDamage → Bytes
+damage_line BadTrailer = codes "store ignored: bad trailer\n"
+damage_line (BadShape place) = codes "store ignored: bad shape at " ++ (decimal place ++ codes "\n")
+damage_line OldVersion = codes "store ignored: version 1\n"
+
+abbrev pub changes_of : ℕ → ℕ → Bytes
+changes_of written removed = codes ", written " ++ (decimal written ++ (codes ", removed " ++ (decimal removed ++ codes "\n")))
+
+abbrev pub summary : ℕ → ℕ → ℕ → ℕ → Bytes
+summary compiled reused written removed = codes "compiled " ++ (decimal compiled ++ (codes ", reused " ++ (decimal reused ++ changes_of written removed)))
 
 abbrev pub items_line : ℕ → Bytes
 items_line items = codes "ok, " ++ (decimal items ++ codes " items\n")
+
+abbrev pub removed_line : ℕ → Bytes
+removed_line files = codes "removed " ++ (decimal files ++ codes "\n")

@@ -1,13 +1,18 @@
 //! The texts that a run prints.
 #![tactic(auto)]
 
+mod counted;
+mod damage;
+mod deps;
 mod done;
 mod pieces;
 mod refusals;
 mod report;
 mod trace;
 
-pub use done::{items_line, summary};
+pub use damage::damage_line;
+pub use deps::deps_text;
+pub use done::{items_line, removed_line, summary};
 pub use refusals::{plan_line, rules_line};
 pub use report::report_text;
 pub use trace::trace_text;

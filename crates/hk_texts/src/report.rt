@@ -11,7 +11,7 @@ ghost use Rattle.hk_rules.specs.Plan.{lookups};
 ghost use Rattle.hk_texts.specs.ReportText as spec;
 ghost use Rattle.hk_texts.specs.ReportText.{IsReportWithin, IsBlockedWithin};
 
-use crate::pieces::{append, append_two, write_item};
+use crate::pieces::{append, append_two, write_item, write_pair};
 use hk_base::{Identifier, NoMemory, Text};
 use hk_chain::{Fault, ItemNo, PairNo};
 use hk_fix::{Outcome, Report};
@@ -219,16 +219,6 @@ fn write_others(
         write_pair(alloc, out, plan, *pair)?;
     }
     Ok(())
-}
-
-#[tactic(auto, unfolding(hk_rules::specs::Plan::lookups))]
-fn write_pair(alloc: Global, out: &mut Vec<u8>, plan: &Plan, pair: PairNo) -> Result<(), NoMemory>
-    requires { pair < pairs (layout plan.now.items) }
-    ensures { OnOk result (out.new.items ≡ out.old.items ++ spec.pair_text (lookups plan.now) pair) }
-{
-    let item = plan.layout().get().item_of(pair);
-    write_item(alloc, out, plan, item)?;
-    append_two(out, b" at ", plan.pair_name(pair))
 }
 
 fn write_counts(alloc: Global, out: &mut Vec<u8>, report: &Report) -> Result<(), NoMemory>
