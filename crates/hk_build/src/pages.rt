@@ -1,0 +1,99 @@
+// The pages of a build, as the site holds them.
+ghost use Rattle.std.specs.Prelude.{◌≡◌, ◌<◌, true, IfOk, OnOk, length, option_map, option_to_list};
+ghost use Rattle.std.specs.FinMap.{entries};
+ghost use Rattle.hk_chain.specs.Kept.{at_place};
+ghost use Rattle.hk_outside.specs.Held.{set_all};
+ghost use Rattle.hk_reuse.specs.Entries.{Entries};
+ghost use Rattle.hk_writer.specs.Pages.{page_of, pages_of};
+ghost use Rattle.hk_build.specs.Build as build;
+ghost use Rattle.hk_build.specs.Built.{AreResults};
+ghost use Rattle.hk_build.specs.Pages as spec;
+
+use hk_base::{NoMemory, Text};
+use hk_chain::{ItemNo, PageRef, PairNo};
+use hk_fix::Results;
+use hk_rules::Plan;
+use hk_writer::PageOut;
+use std::alloc::Global;
+use std::collections::BTreeMap;
+
+/// The pages of a build whose items are all done, of those that have a target, in the order of their targets. `NoMemory`
+/// only for want of memory. `n log n` comparisons of targets; bodies are shared.
+pub fn site_pages(alloc: Global, plan: &Plan, results: &Results) -> Result<Vec<PageOut>, NoMemory>
+    ensures { IfOk result (λ v. (over : Entries) → AreResults plan.now over results.now → build.is_empty (build.report plan.now over) ≡ true
+        → pages_of v.items ≡ entries (build.site_of plan.now over)) }
+{
+    let pages = pages_by_target(alloc, plan, known_pages(results))?;
+    in_order(alloc, pages)
+}
+
+fn known_pages(results: &Results) -> &[Option<PageRef>]
+    ensures { result.now ≡ results.now.pages }
+{
+    &results.pages
+}
+
+fn in_order(alloc: Global, pages: BTreeMap<Text, PageRef>) -> Result<Vec<PageOut>, NoMemory>
+    ensures { IfOk result (λ v. pages_of v.items ≡ entries (spec.map_of pages.entries)) }
+{
+    let mut ordered = Vec::with_capacity(alloc, pages.len())?;
+    for (target, page) in pages {
+        ordered.push(PageOut { target, page })?;
+    }
+    Ok(ordered)
+}
+
+fn pages_by_target(
+    alloc: Global,
+    plan: &Plan,
+    known: &[Option<PageRef>],
+) -> Result<BTreeMap<Text, PageRef>, NoMemory>
+    ensures { IfOk result (λ m. spec.map_of m.entries ≡ spec.files_at plan.now (at_place known.now)) }
+{
+    let mut pages = BTreeMap::new(alloc);
+    for item in (0..plan.count()).rev() {
+        let page = page(alloc, plan, known, ItemNo(item))?;
+        put(&mut pages, page)?;
+    }
+    Ok(pages)
+}
+
+fn put(pages: &mut BTreeMap<Text, PageRef>, page: Option<PageOut>) -> Result<(), NoMemory>
+    ensures { OnOk result (spec.map_of pages.new.entries ≡ set_all (option_to_list (option_map page_of page)) (spec.map_of pages.old.entries)) }
+{
+    if let Some(page) = page {
+        pages.insert(page.target, page.page)?;
+    }
+    Ok(())
+}
+
+#[tactic(auto, unfolding(hk_rules::specs::Plan::lookups))]
+fn page(
+    alloc: Global,
+    plan: &Plan,
+    known: &[Option<PageRef>],
+    item: ItemNo,
+) -> Result<Option<PageOut>, NoMemory>
+    requires { item < length plan.now.items }
+    ensures { IfOk result (λ page. option_map page_of page ≡ spec.page_at plan.now (at_place known.now) item) }
+{
+    let Some(target) = plan.target_of(item) else {
+        return Ok(None);
+    };
+    match page_of(known, plan.layout().get().final_of(item)) {
+        Some(page) => Ok(Some(PageOut {
+            target: Text::from_slice(alloc, target)?,
+            page: page.try_clone()?,
+        })),
+        None => Ok(None),
+    }
+}
+
+fn page_of(known: &[Option<PageRef>], pair: PairNo) -> Option<&PageRef>
+    ensures { option_map (λ page. page.now) result ≡ at_place known.now pair }
+{
+    match known.get(pair.0 as usize) {
+        Some(Some(page)) => Some(page),
+        _ => None,
+    }
+}
