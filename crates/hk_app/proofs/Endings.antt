@@ -1,129 +1,165 @@
 -- From what the parts of a run come to, to what the run promises.
-use Rattle.std.proofs.Common.{◌≡◌, Bool, true, false, List, Option, Some, None, refl, sym, ap, subst, ◌∙◌, arith, IfSome, Result, Ok, Err, IfOk, inl, inr, ◌≤◌, ◌⊎◌}
+use Rattle.std.proofs.Common.{◌≡◌, ℕ, Bool, true, false, List, Option, Some, None, refl, sym, ap, subst, ◌∙◌, arith, IfSome, Result, Ok, Err, IfOk, inl, inr, ◌≤◌, ◌⊎◌}
 use Rattle.std.specs.Prelude.{IsSome}
+use Rattle.std.specs.FinMap.{get}
 use Rattle.hk_base.specs.Bytes.{Bytes, Files}
 use Rattle.hk_base.specs.declared.refusal.NoMemory.{NoMemory as NoMemory-data}
+use Rattle.hk_build.specs.Build.{report, is_empty}
 use Rattle.hk_outside.specs.Causes.{Rose}
 use Rattle.hk_rules.specs.PlanView.{PlanView}
+use Rattle.hk_writer.specs.Writing.{HeldOrNone}
 use Rattle.hk_words.specs.Usage.{usage}
 use Rattle.hk_words.specs.declared.commands.BuildOptions.{BuildOptions}
 use Rattle.hk_words.specs.declared.commands.Command.{Command}
-use Rattle.hk_words.specs.declared.commands.Command.TheVariants.{Build, Check}
+use Rattle.hk_words.specs.declared.commands.Command.TheVariants.{Build, Rebuild, Check, Deps, Clean, Generate}
+use Rattle.hk_words.specs.Words.{command}
 use Rattle.hk_app.specs.declared.ended.Ended.{Ended}
 use Rattle.hk_app.specs.declared.status.Status.{Status}
-use Rattle.hk_app.specs.declared.status.Status.TheVariants.{Ok as Done, Report, Usage, BadRules, BadSite, ReadFault, WriteFault, OutFault, NoMemory}
-use Rattle.hk_words.specs.Words.{command}
+use Rattle.hk_app.specs.declared.status.Status.TheVariants.{Ok as Done, Report, Usage, BadRules, BadSite, ReadFault, WriteFault, StoreFault, OutFault, NoMemory}
 use Rattle.hk_app.specs.Gathering.{RefusesFolder}
-use Rattle.hk_app.specs.Promise.{Always, Plans, AllEnd, IsBuilt, SomeStop, IsSaid, IsReported, IsNamed, IsShown, IsWriteFault, IsUnwritten, IsUnfinished, IsStopped, IsBadRules, IsBadSite, Comes, Holds, Says, IsPartlyBuilt, IsWhollyBuilt, count_line, summary_of}
-use Rattle.hk_app.specs.Promise.{StopsBuild, unbegun, partly, torn_site, past, Leaves, IsSound, IsExcused, failed, unsaid, wanting, of_source, of_site, EndsWell, Promise}
-use Rattle.hk_app.specs.Run.{Ends, EndsWith, EndsAs, EndsBuilt, EndsTraced, WantsBuilt, before, among, after_all, past_fault, EndsChecked, EndsCheck, SaysAs}
+use Rattle.hk_app.specs.Promise.{Always, Plans, Runs, IsPlanOf, reads_source, AllEnd, SomeStop, IsSaid, EndsWhole, EndsStopped, EndsUnwritten, EndsUnsaved, AllButStore, Says, Builds, Reports, FailsWriting, FailsSaving}
+use Rattle.hk_app.specs.Promise.{IsNamed, IsShown, Shows, IsStopped, IsWriteFault, IsStoreFault, IsBadRules, IsBadSite, IsUnplanned, Comes, Holds, IsPartlyBuilt, IsTornBuilt, IsPast, StoreLeft, saved, unsaved, torn_store, whole, stopped}
+use Rattle.hk_app.specs.Promise.{StopsBuild, unbegun, partly, torn_site, past, StopsClean, clearing_site, clearing_cache, StopsReader, Leaves, IsSound, HasSoundPlan, IsExcused, failed, unsaid, wanting, of_source, of_site, of_cache, EndsWell, Promise}
+use Rattle.hk_app.specs.Run.{Ends, EndsWith, EndsAs, EndsBuilt, EndsTold, WantsBuilt, before, among, after_all, past_fault, EndsChecked, EndsCheck, SaysAs}
 use Rattle.hk_app.specs.Site.{Reading, absent, refused, unplanned, planned, reading}
-use Rattle.hk_app.specs.Standing.{Same, Told}
+use Rattle.hk_app.specs.Standing.{Same, Told, SameButStore, store_path}
+use Rattle.hk_app.specs.Taking.{Taken, Takes, TakesAny, IsTakenBy, IsTakenOf, nothing}
 use Rattle.hk_app.specs.World.{Folder, Folders, Output, folders}
 
 -- ---- what is known of an option
 
-at-some : {A : Type 0} {o : Option A} {x : A} (P : A → Type 0) → o ≡ Some x → IfSome o P → P x
+pub at-some : {A : Type 0} {o : Option A} {x : A} (P : A → Type 0) → o ≡ Some x → IfSome o P → P x
 at-some P e h = subst (λ o. IfSome o P) e h
 
--- what holds of the plan
+some-map : {A : Type 0} (P Q : A → Type 0) → ((x : A) → P x → Q x) → (o : Option A) → IfSome o P → IfSome o Q
+some-map P Q f None h = tt
+some-map P Q f (Some x) h = f x h
+
+-- what holds of the plan, and of what is taken of the cache
 plans-map : (old : Folders) (P Q : PlanView → Type 0) → ((plan : PlanView) → P plan → Q plan) → Plans old P → Plans old Q
-plans-map old P Q f = by old.source.files
-  where
-    by : (o : Option Files) → IfSome o (λ m. (plan : PlanView) × (reading m ≡ planned plan) × P plan) → IfSome o (λ m. (plan : PlanView) × (reading m ≡ planned plan) × Q plan)
-    by None h = tt
-    by (Some m) h = (h.0, h.1, f h.0 h.2)
+plans-map old P Q f = some-map _ _ (λ m h. (h.0, h.1, f h.0 h.2)) old.source.files
 
-plans-of : (old : Folders) (P : PlanView → Type 0) (plan : PlanView) → IfSome old.source.files (λ m. reading m ≡ planned plan) → P plan → Plans old P
-plans-of old P plan is h = by old.source.files is
-  where
-    by : (o : Option Files) → IfSome o (λ m. reading m ≡ planned plan) → IfSome o (λ m. (p : PlanView) × (reading m ≡ planned p) × P p)
-    by None is = tt
-    by (Some m) is = (plan, is, h)
+pub plans-of : (old : Folders) (P : PlanView → Type 0) (plan : PlanView) → IfSome old.source.files (λ m. IsPlanOf m plan) → P plan → Plans old P
+plans-of old P plan is h = some-map _ _ (λ m at. (plan, at, h)) old.source.files is
 
-one-plan : (x y : PlanView) → planned x ≡ planned y → x ≡ y
-one-plan x y e = ap held e
-  where
-    held : Reading → PlanView
-    held (planned z) = z
-    held absent = x
-    held (refused fault) = x
-    held (unplanned fault) = x
+takes-map : (c : Command) (cache : Folder) (P Q : Taken → Type 0) → ((t : Taken) → P t → Q t) → Takes c cache P → Takes c cache Q
+takes-map (Build o) cache P Q f h = some-map _ _ (λ m w. (w.0, w.1, f w.0 w.2)) cache.files h
+takes-map (Rebuild o) cache P Q f h = f nothing h
+takes-map Check cache P Q f h = f nothing h
+takes-map Deps cache P Q f h = f nothing h
+takes-map Clean cache P Q f h = f nothing h
+takes-map (Generate o) cache P Q f h = f nothing h
+
+takes-of : (c : Command) (cache : Folder) (P : Taken → Type 0) (t : Taken) → IsTakenBy c cache t → P t → Takes c cache P
+takes-of (Build o) cache P t is h = some-map _ _ (λ m at. (t, at, h)) cache.files is
+takes-of (Rebuild o) cache P t is h = subst P is h
+takes-of Check cache P t is h = subst P is h
+takes-of Deps cache P t is h = subst P is h
+takes-of Clean cache P t is h = subst P is h
+takes-of (Generate o) cache P t is h = subst P is h
+
+pub runs-map : (c : Command) (old : Folders) (P Q : PlanView → Taken → Type 0) → ((plan : PlanView) (t : Taken) → P plan t → Q plan t) → Runs c old P → Runs c old Q
+runs-map c old P Q f = plans-map old (λ plan. Takes c old.cache (P plan)) (λ plan. Takes c old.cache (Q plan)) (λ plan. takes-map c old.cache (P plan) (Q plan) (f plan))
 
 -- ---- one command
 
-told-self : (o : Option Files) → IfSome o (λ m. IsSome o)
-told-self None = tt
-told-self (Some m) = refl
+module _ (P : Reading → Type 0) (source source' site cache : Folder) (h : IfSome source.files (λ m. P (reading m))) where
+  unplanned-of : (c : Command) → reads_source c ≡ true → IsUnplanned c P (folders source site cache) (folders source' site cache)
+  unplanned-of (Build o) reads = record { reads = reads; cause = h; site = refl; cache = refl }
+  unplanned-of (Rebuild o) reads = record { reads = reads; cause = h; site = refl; cache = refl }
+  unplanned-of Check reads = record { reads = reads; cause = h; site = refl; cache = refl }
+  unplanned-of Deps reads = record { reads = reads; cause = h; site = refl; cache = refl }
+  unplanned-of Clean reads = record { reads = reads; cause = h; site = refl; cache = refl }
+  unplanned-of (Generate o) reads = absurd (cc reads)
 
--- the source is as it was, and no call of the cache was made
-pub always-of : (source source' site site' cache : Folder) → Same source source' → source.faults ≤ source'.faults → site.faults ≤ site'.faults → Told site site' → Always (folders source site cache) (folders source' site' cache)
-always-of source source' site site' cache same later later' told =
-    record { source = same; source_count = later; site_count = later'; site_told = told; cache_count = omega arith; cache_told = told-self cache.files }
+-- the source was refused, whatever the command that reads it
+pub refused-task : (c : Command) (source source' site cache : Folder) (status : Status) (text : Bytes) → reads_source c ≡ true → RefusesFolder source source' status text → Comes c (folders source site cache) (folders source' site cache) status text
+refused-task c source source' site cache Done text reads h = absurd h
+refused-task c source source' site cache Report text reads h = absurd h
+refused-task c source source' site cache Usage text reads h = absurd h
+refused-task c source source' site cache BadRules text reads h = unplanned-of (IsBadRules text) source source' site cache h c reads
+refused-task c source source' site cache BadSite text reads h = unplanned-of (IsBadSite text) source source' site cache h c reads
+refused-task c source source' site cache ReadFault text reads h = record { reads = reads; cause = h.0; site = refl; cache = refl; text = h.1 }
+refused-task c source source' site cache WriteFault text reads h = absurd h
+refused-task c source source' site cache StoreFault text reads h = absurd h
+refused-task c source source' site cache OutFault text reads h = absurd h
+refused-task c source source' site cache NoMemory text reads h = absurd h
 
--- nor of the site
-pub always-still : (source source' site cache : Folder) → Same source source' → source.faults ≤ source'.faults → Always (folders source site cache) (folders source' site cache)
-always-still source source' site cache same later = always-of source source' site site cache same later (omega arith) (told-self site.files)
+module _ (c : Command) (trace : Bool) (old new : Folders) (plan : PlanView) (t : Taken) (read : IfSome old.source.files (λ m. IsPlanOf m plan)) (taken : IsTakenBy c old.cache t) where
+  runs-of : (P : PlanView → Taken → Type 0) → P plan t → Runs c old P
+  runs-of P h = plans-of old (λ p. Takes c old.cache (P p)) plan read (takes-of c old.cache (P plan) t taken h)
 
--- the source was refused, whatever the command
-pub refused-task : (c : Command) (source source' site cache : Folder) (status : Status) (text : Bytes) → RefusesFolder source source' status text → Comes c (folders source site cache) (folders source' site cache) status text
-refused-task c source source' site cache Done text h = absurd h
-refused-task c source source' site cache Report text h = absurd h
-refused-task c source source' site cache Usage text h = absurd h
-refused-task c source source' site cache BadRules text h = record { cause = h; site = refl; cache = refl }
-refused-task c source source' site cache BadSite text h = record { cause = h; site = refl; cache = refl }
-refused-task c source source' site cache ReadFault text h = record { cause = h.0; site = refl; cache = refl; text = h.1 }
-refused-task c source source' site cache WriteFault text h = absurd h
-refused-task c source source' site cache OutFault text h = absurd h
-refused-task c source source' site cache NoMemory text h = absurd h
+  says : (E : Bytes → PlanView → Taken → Type 0) (rest text : Bytes) → E rest plan t → IsSaid trace plan t rest text → Runs c old (Says E trace text)
+  says E rest text e s = runs-of (Says E trace text) (record { rest = rest; ends = e; text = s })
 
-module _ (o : BuildOptions) (source source' site site' cache : Folder) (plan : PlanView) (is : IfSome source.files (λ m. reading m ≡ planned plan)) where
-  abbrev start : Folders
-  start = folders source site cache
+  builds : (rest text : Bytes) → EndsBuilt old new plan t Done rest → IsSaid trace plan t rest text → Builds c trace old new text
+  builds rest text h s = record { cache = h.0; run = says (EndsWhole old new) rest text h.1 s }
 
-  abbrev finish : Folders
-  finish = folders source' site' cache
+  reports : (rest text : Bytes) → EndsBuilt old new plan t Report rest → IsSaid trace plan t rest text → Reports c trace old new text
+  reports rest text h s = record { site = h.0; cache = h.1.0; run = says (EndsStopped old new) rest text h.1.1 s }
 
-  said-as : (rest text : Bytes) → IsSaid o.trace plan rest text → (f : Option Files) → IfSome f (λ before. rest ≡ summary_of plan before) → IfSome f (λ before. IsSaid o.trace plan (summary_of plan before) text)
-  said-as rest text s None h = tt
-  said-as rest text s (Some m) h = subst (λ r. IsSaid o.trace plan r text) h s
+  fails-writing : (rest text : Bytes) → EndsBuilt old new plan t WriteFault rest → IsSaid trace plan t rest text → FailsWriting c trace old new text
+  fails-writing rest text h s = record { cause = h.rose; cache = h.cache; run = says (EndsUnwritten old new) rest text h.ends s }
 
-  built-comes : (status : Status) (rest text : Bytes) → EndsBuilt plan site site' status rest → IsSaid o.trace plan rest text → Comes (Build o) start finish status text
-  built-comes Done rest text h s = record { cache = refl; run = plans-of start (IsBuilt o.trace start finish text) plan is (record { all = h.all; site = h.site; text = said-as rest text s site.files h.text }) }
-  built-comes Report rest text h s =
-      record { site = h.1; cache = refl; run = plans-of start (IsReported o.trace text) plan is (record { some = h.0.some; text = subst (λ r. IsSaid o.trace plan r text) h.0.text s }) }
-  built-comes Usage rest text h s = absurd h
-  built-comes BadRules rest text h s = absurd h
-  built-comes BadSite rest text h s = absurd h
-  built-comes ReadFault rest text h s = absurd h
-  built-comes WriteFault rest text h s =
-      let run : IsUnfinished o.trace start finish text plan = record { unwritten = record { all = h.0.all; site = h.0.site }; text = subst (λ r. IsSaid o.trace plan r text) h.1 s } in
-      record { cause = h.0.rose; cache = refl; run = plans-of start (IsUnfinished o.trace start finish text) plan is run }
-  built-comes OutFault rest text h s = absurd h
-  built-comes NoMemory rest text h s = absurd h
+  fails-saving : (rest text : Bytes) → EndsBuilt old new plan t StoreFault rest → IsSaid trace plan t rest text → FailsSaving c trace old new text
+  fails-saving rest text h s = record { cause = h.rose; cache = h.cache; run = says (EndsUnsaved old new) rest text h.ends s }
 
-  built-leaves : WantsBuilt plan site site' → StopsBuild start finish
-  built-leaves (before same) = unbegun same refl
-  built-leaves (among all h) = partly (plans-of start (IsPartlyBuilt start finish) plan is (record { all = all; site = h })) refl
-  built-leaves (after_all all h) = past (plans-of start (IsWhollyBuilt start finish) plan is (record { all = all; site = h })) refl
-  built-leaves (past_fault h) = torn_site h.rose (plans-of start (IsUnwritten start finish) plan is (record { all = h.all; site = h.site })) refl
+  stops-build : WantsBuilt old new plan t → StopsBuild c old new
+  stops-build (before a b) = unbegun a b
+  stops-build (among all h same) = partly (runs-of (IsPartlyBuilt old new) (record { all = all; site = h })) same
+  stops-build (past_fault rose all h same) = torn_site rose (runs-of (IsTornBuilt old new) (record { all = all; site = h })) same
+  stops-build (after_all but h) = past (runs-of (IsPast old new) h) but
+
+module _ (o : BuildOptions) (old new : Folders) (plan : PlanView) (t : Taken) (read : IfSome old.source.files (λ m. IsPlanOf m plan)) where
+  build-comes : IsTakenBy (Build o) old.cache t → (status : Status) (rest text : Bytes) → EndsBuilt old new plan t status rest → IsSaid o.trace plan t rest text → Comes (Build o) old new status text
+  build-comes taken Done rest text h s = builds (Build o) o.trace old new plan t read taken rest text h s
+  build-comes taken Report rest text h s = reports (Build o) o.trace old new plan t read taken rest text h s
+  build-comes taken Usage rest text h s = absurd h
+  build-comes taken BadRules rest text h s = absurd h
+  build-comes taken BadSite rest text h s = absurd h
+  build-comes taken ReadFault rest text h s = absurd h
+  build-comes taken WriteFault rest text h s = fails-writing (Build o) o.trace old new plan t read taken rest text h s
+  build-comes taken StoreFault rest text h s = inr (fails-saving (Build o) o.trace old new plan t read taken rest text h s)
+  build-comes taken OutFault rest text h s = absurd h
+  build-comes taken NoMemory rest text h s = absurd h
+
+  rebuild-comes : IsTakenBy (Rebuild o) old.cache t → (status : Status) (rest text : Bytes) → EndsBuilt old new plan t status rest → IsSaid o.trace plan t rest text → Comes (Rebuild o) old new status text
+  rebuild-comes taken Done rest text h s = builds (Rebuild o) o.trace old new plan t read taken rest text h s
+  rebuild-comes taken Report rest text h s = reports (Rebuild o) o.trace old new plan t read taken rest text h s
+  rebuild-comes taken Usage rest text h s = absurd h
+  rebuild-comes taken BadRules rest text h s = absurd h
+  rebuild-comes taken BadSite rest text h s = absurd h
+  rebuild-comes taken ReadFault rest text h s = absurd h
+  rebuild-comes taken WriteFault rest text h s = fails-writing (Rebuild o) o.trace old new plan t read taken rest text h s
+  rebuild-comes taken StoreFault rest text h s = fails-saving (Rebuild o) o.trace old new plan t read taken rest text h s
+  rebuild-comes taken OutFault rest text h s = absurd h
+  rebuild-comes taken NoMemory rest text h s = absurd h
 
   -- what the building of the plan that was read comes to
-  pub built-task : (r : Result Ended NoMemory-data) → Always start finish → EndsTraced o.trace plan site site' r → EndsAs (Build o) start finish r
-  built-task (Ok e) always h = record { always = always; comes = built-comes e.status h.0 e.text h.1 h.2 }
-  built-task (Err e) always h = record { always = always; leaves = built-leaves h }
+  pub build-task : IsTakenBy (Build o) old.cache t → (r : Result Ended NoMemory-data) → Always old new → EndsTold o.trace old new plan t r → EndsAs (Build o) old new r
+  build-task taken (Ok e) always h = record { always = always; comes = build-comes taken e.status h.0 e.text h.1 h.2 }
+  build-task taken (Err e) always h = record { always = always; leaves = stops-build (Build o) o.trace old new plan t read taken h }
 
-module _ (source source' site cache : Folder) (plan : PlanView) (is : IfSome source.files (λ m. reading m ≡ planned plan)) where
-  checked-comes : (status : Status) (text : Bytes) → EndsChecked plan status text → Comes Check (folders source site cache) (folders source' site cache) status text
-  checked-comes Done text h = record { site = refl; cache = refl; run = plans-of (folders source site cache) (IsShown count_line text) plan is h }
-  checked-comes Report text h = record { site = refl; cache = refl; run = plans-of (folders source site cache) (IsNamed text) plan is h }
-  checked-comes Usage text h = absurd h
-  checked-comes BadRules text h = absurd h
-  checked-comes BadSite text h = absurd h
-  checked-comes ReadFault text h = absurd h
-  checked-comes WriteFault text h = absurd h
-  checked-comes OutFault text h = absurd h
-  checked-comes NoMemory text h = absurd h
+  pub rebuild-task : IsTakenBy (Rebuild o) old.cache t → (r : Result Ended NoMemory-data) → Always old new → EndsTold o.trace old new plan t r → EndsAs (Rebuild o) old new r
+  rebuild-task taken (Ok e) always h = record { always = always; comes = rebuild-comes taken e.status h.0 e.text h.1 h.2 }
+  rebuild-task taken (Err e) always h = record { always = always; leaves = stops-build (Rebuild o) o.trace old new plan t read taken h }
+
+-- a command that writes nothing but its text
+module _ (shown : PlanView → Bytes) (source source' site cache : Folder) (plan : PlanView) (read : IfSome source.files (λ m. IsPlanOf m plan)) where
+  pub check-comes : (status : Status) (text : Bytes) → EndsChecked shown plan status text
+      → (C : Command) → (Shows shown (folders source site cache) (folders source' site cache) text → Comes C (folders source site cache) (folders source' site cache) Done text)
+      → (Plans (folders source site cache) (IsNamed text) → Comes C (folders source site cache) (folders source' site cache) Report text)
+      → Comes C (folders source site cache) (folders source' site cache) status text
+  check-comes Done text h C done named = done (record { site = refl; cache = refl; run = plans-of (folders source site cache) (IsShown shown text) plan read h })
+  check-comes Report text h C done named = named (plans-of (folders source site cache) (IsNamed text) plan read h)
+  check-comes Usage text h C done named = absurd h
+  check-comes BadRules text h C done named = absurd h
+  check-comes BadSite text h C done named = absurd h
+  check-comes ReadFault text h C done named = absurd h
+  check-comes WriteFault text h C done named = absurd h
+  check-comes StoreFault text h C done named = absurd h
+  check-comes OutFault text h C done named = absurd h
+  check-comes NoMemory text h C done named = absurd h
 
 -- a task by its name
 pub same-task : (c d : Command) (old new : Folders) (r : Result Ended NoMemory-data) → c ≡ d → EndsAs d old new r → EndsAs c old new r
@@ -139,6 +175,7 @@ holds-of words c old new BadRules text asked h = record { task = c; asked = aske
 holds-of words c old new BadSite text asked h = record { task = c; asked = asked; comes = h }
 holds-of words c old new ReadFault text asked h = record { task = c; asked = asked; comes = h }
 holds-of words c old new WriteFault text asked h = record { task = c; asked = asked; comes = h }
+holds-of words c old new StoreFault text asked h = record { task = c; asked = asked; comes = h }
 holds-of words c old new OutFault text asked h = absurd h
 holds-of words c old new NoMemory text asked h = absurd h
 
@@ -147,8 +184,13 @@ pub task-ends : (words : List Bytes) (c : Command) (old new : Folders) (r : Resu
 task-ends words c old new (Ok e) asked h = record { always = h.always; holds = holds-of words c old new e.status e.text asked h.comes }
 task-ends words c old new (Err e) asked h = record { always = h.always; leaves = subst (λ o. Leaves o old new) (sym asked) h.leaves }
 
-always-same : (old : Folders) → Always old old
-always-same old = always-still old.source old.source old.site old.cache refl (omega arith)
+told-self : (o : Option Files) → IfSome o (λ m. IsSome o)
+told-self None = tt
+told-self (Some m) = refl
+
+pub always-same : (old : Folders) → Always old old
+always-same old =
+    record { source = refl; source_count = omega arith; site_count = omega arith; site_told = told-self old.site.files; cache_count = omega arith; cache_told = told-self old.cache.files }
 
 -- the words are no command
 pub usage-ends : (words : List Bytes) (old : Folders) (r : Result Ended NoMemory-data) → command words ≡ None → IfOk r (λ e. (e.status ≡ Usage) × (e.text ≡ usage)) → EndsWith words old old r
@@ -156,101 +198,28 @@ usage-ends words old (Ok e) cause h =
     record { always = always-same old; holds = subst (λ s. Holds words old old s e.text) (sym h.0) (record { cause = cause; folders = refl; text = h.1 }) }
 usage-ends words old (Err e) cause h = record { always = always-same old; leaves = subst (λ o. Leaves o old old) (sym cause) refl }
 
+-- nothing of site and cache changed, and the command isn't `gen`, which touches nothing
+pub leaves-still : (c : Command) (old new : Folders) → reads_source c ≡ true → Same old.site new.site → Same old.cache new.cache → Leaves (Some c) old new
+leaves-still (Build o) old new reads site cache = unbegun site cache
+leaves-still (Rebuild o) old new reads site cache = unbegun site cache
+leaves-still Check old new reads site cache = record { site = site; cache = cache }
+leaves-still Deps old new reads site cache = record { site = site; cache = cache }
+leaves-still Clean old new reads site cache = absurd (cc reads)
+leaves-still (Generate o) old new reads site cache = absurd (cc reads)
+
+lost-self : (o : Option Files) → IfSome o (λ m. IfSome o (λ n. (path : Bytes) → HeldOrNone path m n))
+lost-self None = tt
+lost-self (Some m) = λ path. inl refl
+
 -- memory was wanting before any call of a folder
 leaves-all : (c : Option Command) (old : Folders) → Leaves c old old
 leaves-all None old = refl
 leaves-all (Some (Build o)) old = unbegun refl refl
+leaves-all (Some (Rebuild o)) old = unbegun refl refl
 leaves-all (Some Check) old = record { site = refl; cache = refl }
+leaves-all (Some Deps) old = record { site = refl; cache = refl }
+leaves-all (Some Clean) old = clearing_site (lost-self old.site.files) refl
+leaves-all (Some (Generate o)) old = refl
 
 pub unread-ends : (words : List Bytes) (old : Folders) (r : Result Ended NoMemory-data) (e : NoMemory-data) → r ≡ Err e → EndsWith words old old r
 unread-ends words old r e is = subst (EndsWith words old old) (sym is) (record { always = always-same old; leaves = leaves-all (command words) old })
-
--- ---- what want of memory leaves once all but the text is done
-
-task-leaves : (c : Command) (old new : Folders) (status : Status) (text : Bytes) → Comes c old new status text → Leaves (Some c) old new
-task-leaves (Build o) old new Done text h = past (plans-map old (IsBuilt o.trace old new text) (IsWhollyBuilt old new) (λ plan b. record { all = b.all; site = b.site }) h.run) h.cache
-task-leaves (Build o) old new Report text h = unbegun h.site h.cache
-task-leaves (Build o) old new Usage text h = absurd h
-task-leaves (Build o) old new BadRules text h = unbegun h.site h.cache
-task-leaves (Build o) old new BadSite text h = unbegun h.site h.cache
-task-leaves (Build o) old new ReadFault text h = unbegun h.site h.cache
-task-leaves (Build o) old new WriteFault text h = torn_site h.cause (plans-map old (IsUnfinished o.trace old new text) (IsUnwritten old new) (λ plan u. u.unwritten) h.run) h.cache
-task-leaves (Build o) old new OutFault text h = absurd h
-task-leaves (Build o) old new NoMemory text h = absurd h
-task-leaves Check old new Done text h = record { site = h.site; cache = h.cache }
-task-leaves Check old new Report text h = record { site = h.site; cache = h.cache }
-task-leaves Check old new Usage text h = absurd h
-task-leaves Check old new BadRules text h = record { site = h.site; cache = h.cache }
-task-leaves Check old new BadSite text h = record { site = h.site; cache = h.cache }
-task-leaves Check old new ReadFault text h = record { site = h.site; cache = h.cache }
-task-leaves Check old new WriteFault text h = absurd h
-task-leaves Check old new OutFault text h = absurd h
-task-leaves Check old new NoMemory text h = absurd h
-
-leaves : (words : List Bytes) (old new : Folders) (status : Status) (text : Bytes) → Holds words old new status text → Leaves (command words) old new
-leaves words old new Usage text h = subst (λ o. Leaves o old new) (sym h.cause) h.folders
-leaves words old new Done text h = subst (λ o. Leaves o old new) (sym h.asked) (task-leaves h.task old new Done text h.comes)
-leaves words old new Report text h = subst (λ o. Leaves o old new) (sym h.asked) (task-leaves h.task old new Report text h.comes)
-leaves words old new BadRules text h = subst (λ o. Leaves o old new) (sym h.asked) (task-leaves h.task old new BadRules text h.comes)
-leaves words old new BadSite text h = subst (λ o. Leaves o old new) (sym h.asked) (task-leaves h.task old new BadSite text h.comes)
-leaves words old new ReadFault text h = subst (λ o. Leaves o old new) (sym h.asked) (task-leaves h.task old new ReadFault text h.comes)
-leaves words old new WriteFault text h = subst (λ o. Leaves o old new) (sym h.asked) (task-leaves h.task old new WriteFault text h.comes)
-leaves words old new OutFault text h = absurd h.comes
-leaves words old new NoMemory text h = absurd h.comes
-
--- ---- completeness follows from the causes
-
-stopped-run : (c : Command) (old new : Folders) (text : Bytes) → IsStopped c old new text → Plans old SomeStop
-stopped-run (Build o) old new text h = plans-map old (IsReported o.trace text) SomeStop (λ plan r. r.some) h.run
-stopped-run Check old new text h = plans-map old (IsNamed text) SomeStop (λ plan r. r.some) h.run
-
-unwritten-cause : (c : Command) (old new : Folders) (text : Bytes) → IsWriteFault c old new text → Rose old.site.faults new.site.faults
-unwritten-cause (Build o) old new text h = h.cause
-unwritten-cause Check old new text h = absurd h
-
--- a plan that is there and whose items are all done isn't reported on
-not-reported : (old : Folders) → IsSound old → Plans old SomeStop → ⊥
-not-reported old s h =
-    let p = at-some (λ m. (plan : PlanView) × (reading m ≡ planned plan) × SomeStop plan) s.told h in
-    let same : p.0 ≡ s.plan = one-plan p.0 s.plan (sym p.1 ∙ s.planned) in
-    let twice : true ≡ false = sym (subst AllEnd (sym same) s.all) ∙ p.2 in cc
-
-ends-well : (words : List Bytes) (old new : Folders) (out out' : Output) (status : Status) (text : Bytes) → Holds words old new status text → (c : Command) → command words ≡ Some c → IsSound old → EndsWell old new out out' status
-ends-well words old new out out' Done text h c asked s = inl refl
-ends-well words old new out out' Report text h c asked s = absurd (not-reported old s (stopped-run h.task old new text h.comes))
-ends-well words old new out out' Usage text h c asked s = absurd (cc (h.cause, asked))
-ends-well words old new out out' BadRules text h c asked s = absurd (subst (IsBadRules text) s.planned (at-some (λ m. IsBadRules text (reading m)) s.told h.comes.cause))
-ends-well words old new out out' BadSite text h c asked s = absurd (subst (IsBadSite text) s.planned (at-some (λ m. IsBadSite text (reading m)) s.told h.comes.cause))
-ends-well words old new out out' ReadFault text h c asked s = inr (failed (of_source h.comes.cause))
-ends-well words old new out out' WriteFault text h c asked s = inr (failed (of_site (unwritten-cause h.task old new text h.comes)))
-ends-well words old new out out' OutFault text h c asked s = absurd h.comes
-ends-well words old new out out' NoMemory text h c asked s = absurd h.comes
-
--- ---- the promise
-
-pub promise : (words : List Bytes) (old new : Folders) (out out' : Output) (status : Status) (text : Bytes) (result : Status) → Ends words old new status text → SaysAs out out' text status result → out.faults ≤ out'.faults → Promise words old new out out' result
-promise words old new out out' status text Done h s later =
-    let holds : Holds words old new Done text = subst (λ x. Holds words old new x text) (sym s.0) h.holds in
-    record { always = h.always; later = later; said = record { text = text; holds = holds; written = s.1 }; complete = ends-well words old new out out' Done text holds }
-promise words old new out out' status text Report h s later =
-    let holds : Holds words old new Report text = subst (λ x. Holds words old new x text) (sym s.0) h.holds in
-    record { always = h.always; later = later; said = record { text = text; holds = holds; written = s.1 }; complete = ends-well words old new out out' Report text holds }
-promise words old new out out' status text Usage h s later =
-    let holds : Holds words old new Usage text = subst (λ x. Holds words old new x text) (sym s.0) h.holds in
-    record { always = h.always; later = later; said = record { text = text; holds = holds; written = s.1 }; complete = ends-well words old new out out' Usage text holds }
-promise words old new out out' status text BadRules h s later =
-    let holds : Holds words old new BadRules text = subst (λ x. Holds words old new x text) (sym s.0) h.holds in
-    record { always = h.always; later = later; said = record { text = text; holds = holds; written = s.1 }; complete = ends-well words old new out out' BadRules text holds }
-promise words old new out out' status text BadSite h s later =
-    let holds : Holds words old new BadSite text = subst (λ x. Holds words old new x text) (sym s.0) h.holds in
-    record { always = h.always; later = later; said = record { text = text; holds = holds; written = s.1 }; complete = ends-well words old new out out' BadSite text holds }
-promise words old new out out' status text ReadFault h s later =
-    let holds : Holds words old new ReadFault text = subst (λ x. Holds words old new x text) (sym s.0) h.holds in
-    record { always = h.always; later = later; said = record { text = text; holds = holds; written = s.1 }; complete = ends-well words old new out out' ReadFault text holds }
-promise words old new out out' status text WriteFault h s later =
-    let holds : Holds words old new WriteFault text = subst (λ x. Holds words old new x text) (sym s.0) h.holds in
-    record { always = h.always; later = later; said = record { text = text; holds = holds; written = s.1 }; complete = ends-well words old new out out' WriteFault text holds }
-promise words old new out out' status text OutFault h s later =
-    record { always = h.always; later = later; said = record { status = status; text = text; holds = h.holds; cut = s }; complete = λ c asked sound. inr (unsaid s.cause) }
-promise words old new out out' status text NoMemory h s later =
-    record { always = h.always; later = later; said = record { leaves = leaves words old new status text h.holds; written = s }; complete = λ c asked sound. inr (wanting refl) }

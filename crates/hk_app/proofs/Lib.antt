@@ -1,11 +1,12 @@
-pub mod Compiling
+pub mod Beginnings
+pub mod BuildEnds
+pub mod Checkings
+pub mod Cleanings
+pub mod Crews
 pub mod Endings
 pub mod FolderReads
-pub mod Judging
-pub mod PageMaps
-pub mod PageWrites
+pub mod Generatings
+pub mod Promising
+pub mod Removing
 pub mod SourceReads
-mod Tracing
-mod Machines
-mod Plans
-mod Renderings
+pub mod Stocks

@@ -9,13 +9,15 @@ use Rattle.std.specs.FinMap.Entries.{find, find-where_key}
 use Rattle.hk_base.specs.Bytes.{Bytes, Files}
 use Rattle.hk_base.specs.Ties.{same_test}
 use Rattle.hk_base.specs.declared.refusal.NoMemory.{NoMemory as NoMemory-data}
+use Rattle.hk_build.specs.Planned.{IsPlanned}
+use Rattle.hk_rules.specs.PlanView.{PlanView}
 use Rattle.hk_rules.specs.Resource.{is_ignored}
 use Rattle.hk_app.specs.declared.status.Status.{Status}
-use Rattle.hk_app.specs.declared.status.Status.TheVariants.{Ok as Done, Report, Usage, BadRules, BadSite, ReadFault, WriteFault, OutFault, NoMemory}
+use Rattle.hk_app.specs.declared.status.Status.TheVariants.{Ok as Done, Report, Usage, BadRules, BadSite, ReadFault, WriteFault, StoreFault, OutFault, NoMemory}
 use Rattle.hk_app.specs.declared.reading.Gathered.{Gathered}
 use Rattle.hk_app.specs.declared.reading.Gathered.TheVariants.{Refused, Planned}
 use Rattle.hk_app.specs.Gathering.{RefusesReading, ReadsAs, RefusesFolder, Gathers}
-use Rattle.hk_app.specs.Promise.{IsBadRules, IsBadSite}
+use Rattle.hk_app.specs.Promise.{IsBadRules, IsBadSite, IsPlanOf}
 use Rattle.hk_app.specs.Site.{Reading, planned, found_at, rules_path, is_read, are_read, unignored, files_reading, text_reading, reading}
 use Rattle.hk_app.specs.World.{Folder}
 use Rattle.hk_app.proofs.FolderReads.{same_key}
@@ -59,10 +61,15 @@ refuses-folder old new files BadRules text is h = to-folder old.files files (IsB
 refuses-folder old new files BadSite text is h = to-folder old.files files (IsBadSite text) is h
 refuses-folder old new files ReadFault text is h = absurd h
 refuses-folder old new files WriteFault text is h = absurd h
+refuses-folder old new files StoreFault text is h = absurd h
 refuses-folder old new files OutFault text is h = absurd h
 refuses-folder old new files NoMemory text is h = absurd h
+
+planned-of : (old : Option Files) (plan : PlanView) → IsPlanned plan → IfSome old (λ m. reading m ≡ planned plan) → IfSome old (λ m. IsPlanOf m plan)
+planned-of None plan made h = tt
+planned-of (Some m) plan made h = record { read = h; of_rules = made }
 
 pub gathered : (old new : Folder) (files : List (Bytes × Bytes)) (r : Result Gathered NoMemory-data) → IfSome old.files (λ m. files ≡ are_read (entries m)) → IfOk r (ReadsAs (files_reading files)) → IfOk r (Gathers old new)
 gathered old new files (Err e) is h = tt
 gathered old new files (Ok (Refused e)) is h = refuses-folder old new files e.status e.text is h
-gathered old new files (Ok (Planned items)) is h = to-folder old.files files (λ r. r ≡ planned items) is h
+gathered old new files (Ok (Planned plan)) is h = (h.1, planned-of old.files plan h.1 (to-folder old.files files (λ r. r ≡ planned plan) is h.0))

@@ -1,8 +1,7 @@
 // What the source comes to under its rules: a plan, or the refusal of one.
 ghost use Rattle.std.specs.Prelude.{◌≡◌, ◌≤◌, IfOk, option_map};
 ghost use Rattle.hk_rules.specs.Planning.{plan_of};
-ghost use Rattle.hk_rules.specs.Linked.{IsLinked};
-ghost use Rattle.hk_app.specs.Gathering.{ReadsAs, Gathers};
+ghost use Rattle.hk_app.specs.Gathering.{AreRead, ReadsAs, Gathers};
 ghost use Rattle.hk_app.specs.Site as spec;
 ghost use Rattle.hk_app.specs.Site.{files_reading, plan_reading, rules_path, found_at};
 ghost use Rattle.hk_app.specs.World.{folder};
@@ -41,7 +40,8 @@ pub fn gather<S: Tree>(alloc: Global, source: &mut S) -> Result<Gathered, NoMemo
     }
 }
 
-fn plan_files(alloc: Global, files: Vec<(Text, Text)>) -> Result<Gathered, NoMemory>
+/// The plan of files, in the order of their paths, by the rules among them.
+pub fn plan_files(alloc: Global, files: Vec<(Text, Text)>) -> Result<Gathered, NoMemory>
     ensures reads { IfOk result (ReadsAs (files_reading files.items)) }
 {
     match rules_text(files.as_slice()) {
@@ -59,7 +59,7 @@ fn plan_unignored(
     rules: Rules,
     files: Vec<(Text, Text)>,
 ) -> Result<Gathered, NoMemory>
-    requires { IsLinked rules }
+    requires { AreRead rules }
     ensures reads { IfOk result (ReadsAs (plan_reading (plan_of rules (spec.unignored files.items)))) }
 {
     match make_plan(alloc, rules, unignored(files)) {

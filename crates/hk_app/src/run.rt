@@ -1,40 +1,51 @@
 // One run, from the words to the status.
-ghost use Rattle.std.specs.Prelude.{◌≡◌, ◌≤◌, ◌≢◌, IfOk, length, map, string_bytes};
-ghost use Rattle.hk_app.specs.Compiled.{AreResults, IsWhole};
-ghost use Rattle.hk_texts.specs.Printed as printed;
-ghost use Rattle.hk_app.specs.Promise.{Promise, count_line};
-ghost use Rattle.hk_app.specs.Run.{SaysAs, EndsWith, EndsAs, EndsBuild, EndsTraced, EndsCheck};
-ghost use Rattle.hk_app.specs.Standing.{Told};
+ghost use Rattle.std.specs.Prelude.{◌≡◌, ◌≤◌, ◌≢◌, map, string_bytes};
+ghost use Rattle.hk_build.specs.Planned.{IsPlanned};
+ghost use Rattle.hk_store.specs.Stored.{IsStored};
+ghost use Rattle.hk_app.specs.Finishing.{Moves};
+ghost use Rattle.hk_app.specs.Promise.{Promise};
+ghost use Rattle.hk_app.specs.Run.{SaysAs, EndsWith, EndsAs, EndsTold};
+ghost use Rattle.hk_app.specs.TakenBy.{taken_by};
 ghost use Rattle.hk_app.specs.World.{Folder, folder, output, folders};
 ghost use Rattle.hk_words.specs.declared.commands.Command.TheVariants as the;
 
 use crate::Status;
-use crate::compile::{Compiled, compile, judge, run_compilers};
+use crate::beginning::{Begun, begin_build, begin_rebuild};
+use crate::checking::{check, deps};
+use crate::cleaning::clean;
 use crate::ended::Ended;
-use crate::pages::pages;
-use crate::reading::{Gathered, gather};
-use crate::trace::trace_of;
+use crate::finishing::finish;
+use crate::generating::generate;
+use crate::taking::Taken;
 use hk_base::{NoMemory, Shared};
-use hk_fix::Results;
+use hk_build::build_one;
 use hk_outside::{Sink, Tree, TreeFault};
 use hk_rules::Plan;
-use hk_texts::{items_line, summary};
 use hk_words::{BuildOptions, Command, command, usage_text};
-use hk_writer::{Counts, write_site};
 use std::alloc::Global;
 
-/// Does what the words say. `build` reads the source folder with its `site.toml`, runs the compilers of the plan, and
-/// leaves in the site folder exactly the pages. Where an item failed or waits, the site stays as it was, and the text is
-/// the report. `check` does the same but writes no page: its text is the number of items, or the report. The source and
-/// the cache are as before. The text of the run is one write to `out`, the last call. Always returns.
+/// Does what the words say, on the caller's thread. The text of the run is one write to `out`, the last call. The source
+/// stays as it was. Always returns.
+///
+/// - `build` reads the source folder with its `site.toml` and the file `store` of the cache, runs the compilers of the plan
+///   over the stored results, and leaves in the site folder exactly the pages and in `store` what the next build goes by.
+///   An item is compiled only where it is out of date. Where an item failed or waits, the site stays as it was, `store` is
+///   written, and the text is the report. A damaged store counts as an empty one, and a line says so.
+/// - `rebuild` does the same without reading `store`.
+/// - `check` and `deps` run the compilers without the store, and write nothing but their text: the number of items, or what
+///   each item asked for; or the report.
+/// - `clean` removes every file of the site, and then every file of the cache.
+/// - `gen` builds the site that it is given by two numbers, in memory.
 ///
 /// Statuses, in their order: `Usage` exactly where the words are no command; `ReadFault` only where the source's count of
 /// faults rose; `BadRules` exactly where `site.toml` is absent or refused; `BadSite` exactly where its rules make no plan;
-/// `Report` exactly where an item of the plan failed or waits; `WriteFault` only where the site's count rose; `OutFault`
-/// only where the sink's count rose; `NoMemory` for want of memory, and then nothing was written to `out`.
+/// `StoreFault` while reading only where the cache's count rose; `Report` exactly where an item of the plan failed or waits;
+/// `WriteFault` only where the site's count rose; `StoreFault` while saving or removing only where the cache's count rose;
+/// `OutFault` only where the sink's count rose; `NoMemory` for want of memory, and then nothing was written to `out`.
 ///
 /// One read for each file of the source that is not ignored, one list of the site, one read and at most one write for
-/// each page; n log n comparisons of paths. The compilers' work is linear in what they load and make.
+/// each page, one read and one write of the store; n log n comparisons of paths. The compilers' work is linear in what they
+/// load and make; an item that is reused costs the bytes of its fingerprint and of the pages that it asked for.
 pub fn site_main_one<S: Tree, O: Tree, C: Tree, W: Sink>(
     alloc: Global,
     words: &[String],
@@ -54,7 +65,8 @@ pub fn site_main_one<S: Tree, O: Tree, C: Tree, W: Sink>(
     }
 }
 
-fn work<S: Tree, O: Tree, C: Tree>(
+/// All of a run but the writing of its text.
+pub fn work<S: Tree, O: Tree, C: Tree>(
     alloc: Global,
     words: &[String],
     source: &mut S,
@@ -67,166 +79,89 @@ fn work<S: Tree, O: Tree, C: Tree>(
         result }
 {
     match command(alloc, words)? {
-        Some(task) => perform(alloc, task, source, site),
+        Some(task) => perform(alloc, task, source, site, cache),
         None => Ended::new(alloc, Status::Usage, usage_text()),
     }
 }
 
-fn perform<S: Tree, O: Tree>(
+fn perform<S: Tree, O: Tree, C: Tree>(
     alloc: Global,
     task: Command,
     source: &mut S,
     site: &mut O,
+    cache: &mut C,
 ) -> Result<Ended, NoMemory>
-    ensures { (cache : Folder) → EndsAs task
-        (folders (folder (S.files source.old) (S.faults source.old)) (folder (O.files site.old) (O.faults site.old)) cache)
-        (folders (folder (S.files source.new) (S.faults source.new)) (folder (O.files site.new) (O.faults site.new)) cache)
+    ensures { EndsAs task
+        (folders (folder (S.files source.old) (S.faults source.old)) (folder (O.files site.old) (O.faults site.old)) (folder (C.files cache.old) (C.faults cache.old)))
+        (folders (folder (S.files source.new) (S.faults source.new)) (folder (O.files site.new) (O.faults site.new)) (folder (C.files cache.new) (C.faults cache.new)))
         result }
 {
     match task {
-        Command::Build(options) => build(alloc, source, site, options),
+        Command::Build(options) => build(alloc, source, site, cache, options),
+        Command::Rebuild(options) => rebuild(alloc, source, site, cache, options),
         Command::Check => check(alloc, source),
+        Command::Deps => deps(alloc, source),
+        Command::Clean => clean(alloc, site, cache),
+        Command::Generate(options) => generate(alloc, options),
     }
 }
 
-fn build<S: Tree, O: Tree>(
+fn build<S: Tree, O: Tree, C: Tree>(
     alloc: Global,
     source: &mut S,
     site: &mut O,
+    cache: &mut C,
     options: BuildOptions,
 ) -> Result<Ended, NoMemory>
-    ensures { (cache : Folder) → EndsAs (the.Build options)
-        (folders (folder (S.files source.old) (S.faults source.old)) (folder (O.files site.old) (O.faults site.old)) cache)
-        (folders (folder (S.files source.new) (S.faults source.new)) (folder (O.files site.new) (O.faults site.new)) cache)
+    ensures { EndsAs (the.Build options)
+        (folders (folder (S.files source.old) (S.faults source.old)) (folder (O.files site.old) (O.faults site.old)) (folder (C.files cache.old) (C.faults cache.old)))
+        (folders (folder (S.files source.new) (S.faults source.new)) (folder (O.files site.new) (O.faults site.new)) (folder (C.files cache.new) (C.faults cache.new)))
         result }
 {
-    match gather(alloc, source)? {
-        Gathered::Refused(ended) => Ok(ended),
-        Gathered::Planned(plan) => build_plan(alloc, site, plan, options.trace),
+    match begin_build(alloc, source, cache, options)? {
+        Begun::Over(ended) => Ok(ended),
+        Begun::Ready(plan, taken) => build_plan(alloc, site, cache, &plan, &taken, options.trace),
     }
 }
 
-fn check<S: Tree>(alloc: Global, source: &mut S) -> Result<Ended, NoMemory>
-    ensures { (site cache : Folder) → EndsAs the.Check
-        (folders (folder (S.files source.old) (S.faults source.old)) site cache)
-        (folders (folder (S.files source.new) (S.faults source.new)) site cache)
+fn rebuild<S: Tree, O: Tree, C: Tree>(
+    alloc: Global,
+    source: &mut S,
+    site: &mut O,
+    cache: &mut C,
+    options: BuildOptions,
+) -> Result<Ended, NoMemory>
+    ensures { EndsAs (the.Rebuild options)
+        (folders (folder (S.files source.old) (S.faults source.old)) (folder (O.files site.old) (O.faults site.old)) (folder (C.files cache.old) (C.faults cache.old)))
+        (folders (folder (S.files source.new) (S.faults source.new)) (folder (O.files site.new) (O.faults site.new)) (folder (C.files cache.new) (C.faults cache.new)))
         result }
 {
-    match gather(alloc, source)? {
-        Gathered::Refused(ended) => Ok(ended),
-        Gathered::Planned(plan) => check_plan(alloc, plan),
+    match begin_rebuild(alloc, source, options)? {
+        Begun::Over(ended) => Ok(ended),
+        Begun::Ready(plan, taken) => build_plan(alloc, site, cache, &plan, &taken, options.trace),
     }
 }
 
-/// Runs the compilers of a plan, and writes the pages, or else gives the report.
-fn build_plan<O: Tree>(
+/// Runs the compilers of a plan over what was taken of the cache, and ends the build.
+fn build_plan<O: Tree, C: Tree>(
     alloc: Global,
     site: &mut O,
-    plan: Plan,
+    cache: &mut C,
+    plan: &Shared<Plan>,
+    taken: &Taken,
     trace: bool,
 ) -> Result<Ended, NoMemory>
-    ensures ends { EndsTraced trace plan (folder (O.files site.old) (O.faults site.old)) (folder (O.files site.new) (O.faults site.new)) result }
-    ensures told { Told (folder (O.files site.old) (O.faults site.old)) (folder (O.files site.new) (O.faults site.new)) }
-    ensures later { O.faults site.old ≤ O.faults site.new }
+    requires planned { IsPlanned plan.now }
+    requires stored { IsStored taken.now.stored }
+    ensures ends { (source source' : Folder) → EndsTold trace
+        (folders source (folder (O.files site.old) (O.faults site.old)) (folder (C.files cache.old) (C.faults cache.old)))
+        (folders source' (folder (O.files site.new) (O.faults site.new)) (folder (C.files cache.new) (C.faults cache.new)))
+        plan.now (taken_by taken.now) result }
+    ensures site { Moves (folder (O.files site.old) (O.faults site.old)) (folder (O.files site.new) (O.faults site.new)) }
+    ensures cache { Moves (folder (C.files cache.old) (C.faults cache.old)) (folder (C.files cache.new) (C.faults cache.new)) }
 {
-    let plan = Shared::new(alloc, plan)?;
-    let results = run_compilers(alloc, &plan)?;
-    end_build(alloc, site, plan.get(), results, trace)
-}
-
-/// What a build does with the results of its compilers. Where the trace is asked for, it stands in front of the text.
-pub fn end_build<O: Tree>(
-    alloc: Global,
-    site: &mut O,
-    plan: &Plan,
-    results: Results,
-    trace: bool,
-) -> Result<Ended, NoMemory>
-    requires { AreResults plan.now results }
-    ensures ends { EndsTraced trace plan.now (folder (O.files site.old) (O.faults site.old)) (folder (O.files site.new) (O.faults site.new)) result }
-    ensures told { Told (folder (O.files site.old) (O.faults site.old)) (folder (O.files site.new) (O.faults site.new)) }
-    ensures later { O.faults site.old ≤ O.faults site.new }
-{
-    let front = trace_of(alloc, plan, &results.history, trace)?;
-    let ended = settle(alloc, site, plan, results)?;
-    ended.after(front)
-}
-
-/// Writes the pages of a plan, or else gives the report.
-fn settle<O: Tree>(
-    alloc: Global,
-    site: &mut O,
-    plan: &Plan,
-    results: Results,
-) -> Result<Ended, NoMemory>
-    requires { AreResults plan.now results }
-    ensures ends { EndsBuild plan.now (folder (O.files site.old) (O.faults site.old)) (folder (O.files site.new) (O.faults site.new)) result }
-    ensures told { Told (folder (O.files site.old) (O.faults site.old)) (folder (O.files site.new) (O.faults site.new)) }
-    ensures later { O.faults site.old ≤ O.faults site.new }
-{
-    match judge(alloc, plan, results)? {
-        Compiled::Stopped(text) => Ok(Ended {
-            status: Status::Report,
-            text,
-        }),
-        Compiled::Whole(results) => write(alloc, site, plan, &results),
-    }
-}
-
-/// Runs the compilers of a plan, and says how many items it has, or else gives the report.
-fn check_plan(alloc: Global, plan: Plan) -> Result<Ended, NoMemory>
-    ensures { IfOk result (EndsCheck plan) }
-{
-    let plan = Shared::new(alloc, plan)?;
-    match compile(alloc, &plan)? {
-        Compiled::Stopped(text) => Ok(Ended {
-            status: Status::Report,
-            text,
-        }),
-        Compiled::Whole(_) => count(alloc, plan.get()),
-    }
-}
-
-fn count(alloc: Global, plan: &Plan) -> Result<Ended, NoMemory>
-    ensures { IfOk result (λ e. (e.status ≡ Status.Ok) × (e.text ≡ count_line plan.now)) }
-{
-    let text = items_line(alloc, plan.count() as u64)?;
-    Ok(Ended {
-        status: Status::Ok,
-        text,
-    })
-}
-
-/// Writes the pages of a plan.
-fn write<O: Tree>(
-    alloc: Global,
-    site: &mut O,
-    plan: &Plan,
-    results: &Results,
-) -> Result<Ended, NoMemory>
-    requires { IsWhole plan.now results.now }
-    ensures ends { EndsBuild plan.now (folder (O.files site.old) (O.faults site.old)) (folder (O.files site.new) (O.faults site.new)) result }
-    ensures told { Told (folder (O.files site.old) (O.faults site.old)) (folder (O.files site.new) (O.faults site.new)) }
-    ensures later { O.faults site.old ≤ O.faults site.new }
-{
-    let pages = pages(alloc, plan, &results.pages)?;
-    match write_site(alloc, site, &pages) {
-        Ok(counts) => done(alloc, plan, &counts),
-        Err(TreeFault::Failed) => {
-            Ended::new(alloc, Status::WriteFault, b"site cannot be written\n")
-        }
-        Err(TreeFault::NoMemory) => Err(NoMemory),
-    }
-}
-
-fn done(alloc: Global, plan: &Plan, counts: &Counts) -> Result<Ended, NoMemory>
-    ensures { IfOk result (λ e. (e.status ≡ Status.Ok) × (e.text ≡ printed.summary (length plan.now.items) counts.now.written counts.now.removed)) }
-{
-    let text = summary(alloc, plan.count() as u64, counts.written, counts.removed)?;
-    Ok(Ended {
-        status: Status::Ok,
-        text,
-    })
+    let build = build_one(alloc, plan, &taken.stored)?;
+    finish(alloc, site, cache, plan.get(), taken, &build, trace)
 }
 
 /// Writes the text of a run, and turns the status where it cannot be written.

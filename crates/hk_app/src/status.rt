@@ -19,6 +19,8 @@ pub enum Status {
     ReadFault,
     /// The site could not be written.
     WriteFault,
+    /// The store could not be read or written, or the cache not be removed.
+    StoreFault,
     /// The text of the run could not be written.
     OutFault,
     /// Want of memory.
@@ -38,6 +40,7 @@ impl Status {
             Status::BadSite => 4,
             Status::ReadFault => 5,
             Status::WriteFault => 6,
+            Status::StoreFault => 7,
             Status::OutFault => 8,
             Status::NoMemory => 9,
         }

@@ -1,8 +1,14 @@
 use Rattle.hk_app.proofs.Endings.{same-task}
 use Rattle.hk_app.proofs.run.perform.Goals as goal
 
-pub returns-in-Build : goal.returns-in-Build
-returns-in-Build g c = λ cache. same-task _ _ _ _ c.build.result c.in-Build.is (c.build.ensures cache)
-
 pub returns-in-Check : goal.returns-in-Check
-returns-in-Check g c = λ cache. same-task _ _ _ _ c.check.result c.in-Check.is (c.check.ensures _ cache)
+returns-in-Check g c = same-task _ _ _ _ c.check.result c.in-Check.is (c.check.ensures _ _)
+
+pub returns-in-Deps : goal.returns-in-Deps
+returns-in-Deps g c = same-task _ _ _ _ c.deps.result c.in-Deps.is (c.deps.ensures _ _)
+
+pub returns-in-Clean : goal.returns-in-Clean
+returns-in-Clean g c = same-task _ _ _ _ c.clean.result c.in-Clean.is (c.clean.ensures _)
+
+pub returns-in-Generate : goal.returns-in-Generate
+returns-in-Generate g c = same-task _ _ _ _ c.generate.result c.in-Generate.is (c.generate.ensures _)

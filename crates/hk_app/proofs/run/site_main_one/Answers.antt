@@ -1,4 +1,4 @@
-use Rattle.hk_app.proofs.Endings.{promise}
+use Rattle.hk_app.proofs.Promising.{promise}
 use Rattle.hk_app.proofs.run.site_main_one.Goals as goal
 
 pub returns-in-Ok : goal.returns-in-Ok

@@ -1,0 +1,8 @@
+//! Over a store that a clean build left, a run of the program is a clean build.
+#![tactic(auto)]
+
+mod builds;
+mod chains;
+
+pub use builds::{builds_over_honest_stores_are_clean, honest_stores_give_clean_runs};
+pub use chains::chains_of_builds_are_clean;
