@@ -1,0 +1,19 @@
+-- The proofs of the laws.
+pub mod CutLemmas
+pub mod DateLemmas
+pub mod FaultLemmas
+pub mod FirstLemmas
+pub mod HeldLemmas
+pub mod KindLemmas
+pub mod LetterLemmas
+pub mod LinkLemmas
+pub mod PartLemmas
+pub mod PieceLemmas
+pub mod RawLemmas
+pub mod Refusing
+pub mod ReplaceLemmas
+pub mod RunLemmas
+pub mod ScalarLemmas
+pub mod TokenLemmas
+pub mod WalkLemmas
+pub mod WordLemmas

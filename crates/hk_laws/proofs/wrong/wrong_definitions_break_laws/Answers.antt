@@ -1,0 +1,21 @@
+-- Wrong definitions break the laws.
+use Rattle.hk_laws.proofs.Refusing
+use Rattle.hk_laws.proofs.wrong.wrong_definitions_break_laws.Goals as goal
+
+pub returns-clause-no_tags : goal.returns-clause-no_tags
+returns-clause-no_tags c = Refusing.nothing_is_a_tag
+
+pub returns-clause-no_comments : goal.returns-clause-no_comments
+returns-clause-no_comments c = Refusing.no_comments
+
+pub returns-clause-no_raw_text : goal.returns-clause-no_raw_text
+returns-clause-no_raw_text c = Refusing.no_raw_text
+
+pub returns-clause-no_src : goal.returns-clause-no_src
+returns-clause-no_src c = Refusing.src_is_no_link
+
+pub returns-clause-no_case : goal.returns-clause-no_case
+returns-clause-no_case c = Refusing.case_matters
+
+pub returns-clause-no_places : goal.returns-clause-no_places
+returns-clause-no_places c = Refusing.places_zero
