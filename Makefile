@@ -1,5 +1,6 @@
 # build    the proved program, as ./hakyll_cli
-# install  the same under PREFIX, /usr/local where none is given
+# install  the same under PREFIX, /usr/local where none is given, with a manual page and completions for bash, zsh and fish
+# uninstall   takes these away from PREFIX
 # demo     builds the example site in out/demo and prints its pages
 # test     the gate: every proof, test and must-fail edit, and the end-to-end cases
 # allocations   lets each allocation of a build fail in turn, in the proved program; it wants a C compiler, and is not part
@@ -9,7 +10,7 @@ PREFIX = /usr/local
 program = crates/hk_cli/out/hk_cli
 sources = $(shell find crates -type f -not -path '*/out/*' -not -path '*/must-fail/*')
 
-.PHONY: build install demo test allocations clean
+.PHONY: build install uninstall demo test allocations clean
 
 build: hakyll_cli
 
@@ -22,8 +23,10 @@ $(program): crates.txt HANDLES $(sources)
 	touch $@
 
 install: build
-	mkdir -p $(DESTDIR)$(PREFIX)/bin
-	cp hakyll_cli $(DESTDIR)$(PREFIX)/bin/hakyll_cli
+	share/install "$(DESTDIR)$(PREFIX)" hakyll_cli
+
+uninstall:
+	share/install --remove "$(DESTDIR)$(PREFIX)"
 
 # The proved program where it stands and is as new as its sources, and else an unproved build.
 demo:
