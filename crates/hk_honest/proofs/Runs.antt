@@ -1,5 +1,5 @@
 -- Builds over honest stores, one and many.
-use Rattle.std.proofs.Common.{◌≡◌, Bool, true, false, List, Option, Some, None, refl, sym, ap, subst, ◌∙◌, ◌⊎◌, inl, inr}
+use Rattle.std.proofs.Common.{◌≡◌, Bool, List, Option, Some, sym, ap, subst, ◌∙◌, inl, inr}
 use Rattle.std.specs.Cmp.Lexicographic.{nat_list_cmp_total}
 use Rattle.std.specs.FinMap.{get, get-insert, insert}
 use Rattle.std.specs.Prelude.{cond}
@@ -16,7 +16,7 @@ use Rattle.hk_words.specs.Words.{command}
 use Rattle.hk_app.specs.declared.status.Status.{Status}
 use Rattle.hk_app.specs.declared.status.Status.TheVariants.{Ok as Done, Report}
 use Rattle.hk_app.specs.Promise.{Builds, EndsStopped, EndsWhole, IsDone, IsPlanOf, IsStopped, Reports, Says}
-use Rattle.hk_app.specs.Site.{Reading, absent, planned, reading, refused, unplanned}
+use Rattle.hk_app.specs.Site.{Reading, absent, planned, refused, unplanned}
 use Rattle.hk_app.specs.Standing.{store_path}
 use Rattle.hk_app.specs.Taking.{IsTakenOf, Taken, Takes}
 use Rattle.hk_app.specs.World.{Folders}

@@ -74,10 +74,10 @@ pub record IsRunBefore (plan : PlanView) (cache after : Files) : Type 0 where
 -- What stands of the store after a run: what stood before; none, after `clean`; the store of a clean build of the run's
 -- plan; or, where a fault of the cache was counted, what a failed write of that store leaves.
 pub data IsStoreAfter (words : List Bytes) (old new : Folders) (before now : Option Bytes) : Type 0 where
-  unchanged : now ≡ before → IsStoreAfter words old new before now
+  as_before : now ≡ before → IsStoreAfter words old new before now
   removed : command words ≡ Some Clean → now ≡ None → IsStoreAfter words old new before now
   written : (own : PlanView) → IsBuildOf words old own → now ≡ Some (image own no_entries) → IsStoreAfter words old new before now
-  torn : (own : PlanView) → IsBuildOf words old own → Rose old.cache.faults new.cache.faults → IsTornStore before (image own no_entries) now
+  torn_write : (own : PlanView) → IsBuildOf words old own → Rose old.cache.faults new.cache.faults → IsTornStore before (image own no_entries) now
       → IsStoreAfter words old new before now
 
 -- a run ended with a fault of the source or of the site
