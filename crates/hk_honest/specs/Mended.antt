@@ -31,8 +31,8 @@ abbrev pub reads_store : Command → Bool
 reads_store (Build o) = true
 reads_store _ = false
 
--- What a failed write of these bytes leaves of the store: what stood before, none, all of the bytes, or some that are no
--- store, as a cut text is whose trailer doesn't match.
+-- What a failed write of these bytes leaves of the store: what stood before, none, all of the bytes, or some that aren't
+-- read as a store, as a cut text whose trailer doesn't match.
 pub data IsTornStore (before : Option Bytes) (bytes : Bytes) (now : Option Bytes) : Type 0 where
   held : now ≡ before → IsTornStore before bytes now
   gone : now ≡ None → IsTornStore before bytes now
