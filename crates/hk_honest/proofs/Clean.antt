@@ -27,7 +27,7 @@ use Rattle.hk_store.specs.Entry.{EntryView}
 use Rattle.hk_store.specs.Told.{Short}
 use Rattle.hk_store.specs.Traits.{sha_digests}
 use Rattle.hk_store.specs.declared.damage.StoreDamage.{StoreDamage}
-use Rattle.hk_app.specs.Taking.{IsReadOf, IsTakenOf, Taken, nothing, taken_of}
+use Rattle.hk_app.specs.Taking.{IsReadOf, IsTakenOf, Taken, taken_of}
 use Rattle.hk_honest.specs.Honest.{IsHonest, absent, left, damaged}
 
 none-formed : AreFormed no_entries
