@@ -1,7 +1,7 @@
 // Folders as the rows name them, and as trees in memory hold them.
 use hk_base::{NoMemory, Text};
 use hk_outside::{Fail as Failing, MemTree, Tree, TreeFault};
-use std::alloc::Global;
+use std::alloc::{AllocError, Global};
 
 /// Files with what they hold, in the order in which they were named.
 #[derive(Drop)]
@@ -25,17 +25,20 @@ impl Folder {
 
     /// Puts a file, or more at the end of the file that was named last.
     pub fn add(&mut self, alloc: Global, path: &[u8], bytes: &[u8]) -> Result<(), NoMemory> {
-        if let Some(last) = self.files.last_mut()
-            && last.0.as_slice() == path
-        {
-            last.1.extend_from_slice(bytes)?;
-            return Ok(());
+        if self.ends_with(path) {
+            add_to_last(&mut self.files, bytes)?;
+        } else {
+            let path = Vec::from_slice(alloc, path)?;
+            self.files.push((path, Vec::from_slice(alloc, bytes)?))?;
         }
-        self.files.push((
-            Vec::from_slice(alloc, path)?,
-            Vec::from_slice(alloc, bytes)?,
-        ))?;
         Ok(())
+    }
+
+    fn ends_with(&self, path: &[u8]) -> bool {
+        match self.files.last() {
+            Some(last) => last.0.as_slice() == path,
+            None => false,
+        }
     }
 
     /// A tree with these files, in which each call after the first `fuse` fails, and this one.
@@ -83,6 +86,13 @@ impl Folder {
         }
         Ok(count(alloc, tree)? == self.files.len())
     }
+}
+
+fn add_to_last(files: &mut Vec<(Vec<u8>, Vec<u8>)>, bytes: &[u8]) -> Result<(), AllocError> {
+    if let Some(last) = files.last_mut() {
+        last.1.extend_from_slice(bytes)?;
+    }
+    Ok(())
 }
 
 /// How many files a tree has.

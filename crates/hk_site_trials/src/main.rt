@@ -2,6 +2,7 @@
 //! were changed, and prints behind each run what it comes to, and what the next one does.
 #![tactic(auto)]
 
+mod faults;
 mod folders;
 mod forging;
 mod gate;
@@ -18,7 +19,8 @@ fn main(rt: HostRuntime) -> Result<(), Fail> {
     let mut trial = Trial::new(alloc);
     for line in rt.lines(alloc) {
         let line = line?;
-        let (call, args) = row::parts(alloc, line.as_str())?;
+        let (call, rest) = line.as_str().split_once('|').unwrap_or((line.as_str(), ""));
+        let args = row::arguments(alloc, rest)?;
         if !trial.set(alloc, call, &args)? {
             let text = trial.answer(&rt, alloc, call, &args)?;
             println!(rt; "{line} -> {text}")?;

@@ -2,16 +2,13 @@
 use std::alloc::{AllocError, Global};
 use std::test::Fail;
 
-/// The first word of a row, and what stands behind its bars. There `\n` is a line feed, and `\x` with two digits any byte.
-pub fn parts(alloc: Global, line: &str) -> Result<(&str, Vec<Vec<u8>>), Fail> {
-    let mut args = Vec::new(alloc);
-    let Some((call, rest)) = line.split_once('|') else {
-        return Ok((line, args));
-    };
-    for part in rest.split('|') {
-        args.push(bytes_of(alloc, part)?)?;
+/// What stands between the bars of a row. There `\n` is a line feed, and `\x` with two digits any byte.
+pub fn arguments(alloc: Global, text: &str) -> Result<Vec<Vec<u8>>, Fail> {
+    let mut all = Vec::new(alloc);
+    for part in text.split('|') {
+        all.push(bytes_of(alloc, part)?)?;
     }
-    Ok((call, args))
+    Ok(all)
 }
 
 fn bytes_of(alloc: Global, text: &str) -> Result<Vec<u8>, Fail> {
@@ -42,7 +39,25 @@ fn digit(byte: u8) -> u8 {
     }
 }
 
-/// The number that stands behind a bar.
-pub fn number(text: &[u8]) -> Result<u64, Fail> {
-    Ok(str::from_utf8(text)?.parse::<u64>()?)
+/// The argument at this place, counted from 0.
+pub fn bytes_at(args: &[Vec<u8>], place: usize) -> Result<&[u8], Fail> {
+    match args.get(place) {
+        Some(bytes) => Ok(bytes),
+        None => Err(Fail::new("too few arguments")),
+    }
+}
+
+/// The word at this place.
+pub fn word_at(args: &[Vec<u8>], place: usize) -> Result<&str, Fail> {
+    Ok(str::from_utf8(bytes_at(args, place)?)?)
+}
+
+/// The number of a call at this place.
+pub fn number_at(args: &[Vec<u8>], place: usize) -> Result<u64, Fail> {
+    Ok(word_at(args, place)?.parse::<u64>()?)
+}
+
+/// The number of bytes at this place.
+pub fn size_at(args: &[Vec<u8>], place: usize) -> Result<usize, Fail> {
+    Ok(word_at(args, place)?.parse::<usize>()?)
 }

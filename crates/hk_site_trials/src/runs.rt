@@ -1,44 +1,12 @@
-// Runs on one thread, in which calls fail.
+// Runs on one thread.
+use crate::faults::{Fault, Place};
 use crate::folders::Folder;
 use hk_app::site_main_one;
 use hk_base::NoMemory;
-use hk_outside::{Fail as Failing, MemSink, MemTree};
+use hk_outside::{MemSink, MemTree};
 use std::alloc::{AllocError, Global};
 
-/// One of the three folders of a run.
-#[derive(Clone, Copy, PartialEq, Eq, Drop)]
-pub enum Place {
-    Source,
-    Site,
-    Cache,
-}
-
-/// What fails in a run: nothing, each call of a folder after the first so many, one call, or the text after so many bytes.
-#[derive(Clone, Copy, Drop)]
-pub enum Fault {
-    Nothing,
-    Fuse(Place, u64),
-    Call(Place, Failing),
-    Text(usize),
-}
-
-impl Fault {
-    fn fuse(self, place: Place) -> Option<u64> {
-        match self {
-            Fault::Fuse(burnt, calls) if burnt == place => Some(calls),
-            _ => None,
-        }
-    }
-
-    fn call(self, place: Place) -> Option<Failing> {
-        match self {
-            Fault::Call(struck, fail) if struck == place => Some(fail),
-            _ => None,
-        }
-    }
-}
-
-/// What a run finds.
+/// What a run finds, and what it leaves.
 #[derive(Drop)]
 pub struct World {
     pub source: MemTree,
@@ -59,21 +27,13 @@ impl World {
             source: tree(alloc, source, Place::Source, fault)?,
             site: tree(alloc, site, Place::Site, fault)?,
             cache: tree(alloc, cache, Place::Cache, fault)?,
-            out: sink(alloc, fault)?,
+            out: fault.sink(alloc)?,
         })
     }
 }
 
 fn tree(alloc: Global, folder: &Folder, place: Place, fault: Fault) -> Result<MemTree, NoMemory> {
-    folder.tree(alloc, fault.fuse(place), fault.call(place))
-}
-
-fn sink(alloc: Global, fault: Fault) -> Result<MemSink, NoMemory> {
-    let mut fails = Vec::new(alloc);
-    if let Fault::Text(count) = fault {
-        fails.push((1u64, count))?;
-    }
-    MemSink::new(alloc, fails)
+    folder.tree(alloc, fault.calls_of(place), fault.fail_of(place))
 }
 
 /// A run that is over.
@@ -92,7 +52,7 @@ impl Ran {
 }
 
 /// The words of a line.
-pub fn words(alloc: Global, line: &str) -> Result<Vec<String>, NoMemory> {
+pub fn words_of(alloc: Global, line: &str) -> Result<Vec<String>, NoMemory> {
     let mut words = Vec::new(alloc);
     for word in line.split_whitespace() {
         words.push(String::from_str(alloc, word)?)?;
@@ -100,7 +60,7 @@ pub fn words(alloc: Global, line: &str) -> Result<Vec<String>, NoMemory> {
     Ok(words)
 }
 
-/// Does what the words say.
+/// Does what the words say. It has no promise, so that its callers carry none.
 pub fn run(alloc: Global, words: Vec<String>, mut world: World) -> Ran {
     let status = site_main_one(
         alloc,

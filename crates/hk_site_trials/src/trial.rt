@@ -1,10 +1,10 @@
 // What the rows name, and what each of them comes to.
+use crate::faults::{Fault, Place};
 use crate::folders::Folder;
-use crate::row::number;
-use crate::runs::{Fault, Place, Ran, World, run, words};
+use crate::row::{bytes_at, number_at, size_at, word_at};
+use crate::runs::{Ran, World, run, words_of};
 use crate::{forging, meeting};
 use hk_base::NoMemory;
-use hk_outside::{CallKind, Fail as Failing};
 use std::alloc::Global;
 use std::sync::Wait;
 use std::test::Fail;
@@ -27,13 +27,13 @@ impl Trial {
         }
     }
 
-    /// Takes a row that names a file, or begins anew, and says whether it is one.
-    pub fn set(&mut self, alloc: Global, call: &str, args: &[Vec<u8>]) -> Result<bool, NoMemory> {
-        match (call, args) {
-            ("new", []) => *self = Trial::new(alloc),
-            ("file", [path, bytes]) => self.source.add(alloc, path, bytes)?,
-            ("before", [path, bytes]) => self.site.add(alloc, path, bytes)?,
-            ("page", [path, bytes]) => self.pages.add(alloc, path, bytes)?,
+    /// Takes a row that names a file, or that begins anew, and says whether it is one.
+    pub fn set(&mut self, alloc: Global, call: &str, args: &[Vec<u8>]) -> Result<bool, Fail> {
+        match call {
+            "new" => *self = Trial::new(alloc),
+            "file" => put(alloc, &mut self.source, args)?,
+            "before" => put(alloc, &mut self.site, args)?,
+            "page" => put(alloc, &mut self.pages, args)?,
             _ => return Ok(false),
         }
         Ok(true)
@@ -47,16 +47,16 @@ impl Trial {
         call: &str,
         args: &[Vec<u8>],
     ) -> Result<String, Fail> {
-        match (call, args) {
-            ("fuse", [place, calls]) => self.mended(alloc, fuse(place, calls)?),
-            ("fails", [place, kind, count]) => self.mended(alloc, failing(place, kind, count)?),
-            ("torn", [count]) => self.mended(alloc, torn(count)?),
-            ("text", [count]) => self.mended(alloc, Fault::Text(number(count)? as usize)),
-            ("clean", [calls]) => self.cleaned(alloc, Fault::Fuse(Place::Site, number(calls)?)),
-            ("cut", [text]) => forging::cut(alloc, self, text),
-            ("forged", [text]) => forging::forged(alloc, self, text),
-            ("meeting", [line]) => meeting::met(rt, alloc, self, line),
-            _ => Ok(String::from_str(alloc, "no such row")?),
+        match call {
+            "fuse" => self.mended(alloc, Fault::fuse_of(args)?),
+            "fails" => self.mended(alloc, Fault::call_of(args)?),
+            "torn" => self.mended(alloc, Fault::torn_of(args)?),
+            "text" => self.mended(alloc, Fault::Text(size_at(args, 0)?)),
+            "clean" => self.cleaned(alloc, Fault::Fuse(Place::Site, number_at(args, 0)?)),
+            "cut" => forging::cut(alloc, self, bytes_at(args, 0)?),
+            "forged" => forging::forged(alloc, self, bytes_at(args, 0)?),
+            "meeting" => meeting::met(rt, alloc, self, word_at(args, 0)?),
+            _ => Err(Fail::new("no such row")),
         }
     }
 
@@ -64,8 +64,8 @@ impl Trial {
     fn mended(&self, alloc: Global, fault: Fault) -> Result<String, Fail> {
         let first = self.build(alloc, fault)?;
         let second = self.go_on(alloc, "build", &first, Fault::Nothing)?;
-        let text = first.shown(alloc)?;
-        Ok(format!(in alloc; "{text}; {}", self.told(alloc, second)?)?)
+        let (first, second) = (first.shown(alloc)?, self.told(alloc, second)?);
+        Ok(format!(in alloc; "{first}; {second}")?)
     }
 
     /// After a build, a cleaning in which something fails, and the next one.
@@ -73,20 +73,22 @@ impl Trial {
         let built = self.build(alloc, Fault::Nothing)?;
         let first = self.go_on(alloc, "clean", &built, fault)?;
         let second = self.go_on(alloc, "clean", &first, Fault::Nothing)?;
-        Ok(format!(in alloc; "{}; {}", first.shown(alloc)?, second.shown(alloc)?)?)
+        let (first, second) = (first.shown(alloc)?, second.shown(alloc)?);
+        Ok(format!(in alloc; "{first}; {second}")?)
     }
 
-    /// What a run finds at the start, with no store.
+    /// What a first run finds: there is no store.
     pub fn begin(&self, alloc: Global, fault: Fault) -> Result<World, NoMemory> {
         World::new(alloc, &self.source, &self.site, &Folder::new(alloc), fault)
     }
 
     /// A first build.
     pub fn build(&self, alloc: Global, fault: Fault) -> Result<Ran, NoMemory> {
-        Ok(run(alloc, words(alloc, "build")?, self.begin(alloc, fault)?))
+        let world = self.begin(alloc, fault)?;
+        Ok(run(alloc, words_of(alloc, "build")?, world))
     }
 
-    /// A run over what another one left.
+    /// A run over the pages and the store that another one left.
     fn go_on(
         &self,
         alloc: Global,
@@ -97,21 +99,23 @@ impl Trial {
         let site = self.pages.left_in(alloc, &before.world.site)?;
         let cache = Folder::of(alloc, b"store", b"")?.left_in(alloc, &before.world.cache)?;
         let world = World::new(alloc, &self.source, &site, &cache, fault)?;
-        Ok(run(alloc, words(alloc, line)?, world))
+        Ok(run(alloc, words_of(alloc, line)?, world))
     }
 
     /// A build over the site of the start and a store.
-    pub fn over(&self, alloc: Global, store: &[u8]) -> Result<Ran, NoMemory> {
-        let cache = Folder::of(alloc, b"store", store)?;
-        let world = World::new(alloc, &self.source, &self.site, &cache, Fault::Nothing)?;
-        Ok(run(alloc, words(alloc, "build")?, world))
+    pub fn build_over(&self, alloc: Global, store: &[u8]) -> Result<Ran, NoMemory> {
+        self.over(alloc, &self.site, store)
     }
 
     /// A build over the right pages and a store.
-    pub fn over_pages(&self, alloc: Global, store: &[u8]) -> Result<Ran, NoMemory> {
+    pub fn rebuild_over(&self, alloc: Global, store: &[u8]) -> Result<Ran, NoMemory> {
+        self.over(alloc, &self.pages, store)
+    }
+
+    fn over(&self, alloc: Global, site: &Folder, store: &[u8]) -> Result<Ran, NoMemory> {
         let cache = Folder::of(alloc, b"store", store)?;
-        let world = World::new(alloc, &self.source, &self.pages, &cache, Fault::Nothing)?;
-        Ok(run(alloc, words(alloc, "build")?, world))
+        let world = World::new(alloc, &self.source, site, &cache, Fault::Nothing)?;
+        Ok(run(alloc, words_of(alloc, "build")?, world))
     }
 
     /// Whether a run left exactly the right pages.
@@ -121,53 +125,14 @@ impl Trial {
 
     /// The status and the text of a run, and whether it left exactly the right pages.
     pub fn told(&self, alloc: Global, mut ran: Ran) -> Result<String, Fail> {
-        let pages = if self.has_pages(alloc, &mut ran)? {
-            "right pages"
-        } else {
-            "other pages"
-        };
-        Ok(format!(in alloc; "{}; {pages}", ran.shown(alloc)?)?)
+        let right = self.has_pages(alloc, &mut ran)?;
+        let pages = if right { "right pages" } else { "other pages" };
+        let text = ran.shown(alloc)?;
+        Ok(format!(in alloc; "{text}; {pages}")?)
     }
 }
 
-fn fuse(place: &[u8], calls: &[u8]) -> Result<Fault, Fail> {
-    Ok(Fault::Fuse(place_of(place)?, number(calls)?))
-}
-
-fn failing(place: &[u8], kind: &[u8], count: &[u8]) -> Result<Fault, Fail> {
-    let fail = Failing {
-        call: kind_of(kind)?,
-        number: number(count)?,
-        torn: None,
-    };
-    Ok(Fault::Call(place_of(place)?, fail))
-}
-
-/// The first write of the cache leaves so many bytes.
-fn torn(count: &[u8]) -> Result<Fault, Fail> {
-    let fail = Failing {
-        call: CallKind::Write,
-        number: 1,
-        torn: Some(number(count)? as usize),
-    };
-    Ok(Fault::Call(Place::Cache, fail))
-}
-
-fn place_of(word: &[u8]) -> Result<Place, Fail> {
-    match word {
-        b"source" => Ok(Place::Source),
-        b"site" => Ok(Place::Site),
-        b"cache" => Ok(Place::Cache),
-        _ => Err(Fail::new("no such folder")),
-    }
-}
-
-fn kind_of(word: &[u8]) -> Result<CallKind, Fail> {
-    match word {
-        b"list" => Ok(CallKind::List),
-        b"read" => Ok(CallKind::Read),
-        b"write" => Ok(CallKind::Write),
-        b"remove" => Ok(CallKind::Remove),
-        _ => Err(Fail::new("no such call")),
-    }
+fn put(alloc: Global, folder: &mut Folder, args: &[Vec<u8>]) -> Result<(), Fail> {
+    folder.add(alloc, bytes_at(args, 0)?, bytes_at(args, 1)?)?;
+    Ok(())
 }
