@@ -23,29 +23,17 @@ pub enum Fault {
 }
 
 impl Fault {
-    /// A folder and how many of its calls have an answer.
-    pub fn fuse_of(args: &[Vec<u8>]) -> Result<Fault, Fail> {
-        Ok(Fault::Fuse(place_of(word_at(args, 0)?)?, number_at(args, 1)?))
-    }
-
-    /// A folder, the kind of a call and its number.
-    pub fn call_of(args: &[Vec<u8>]) -> Result<Fault, Fail> {
-        let fail = Failing {
-            call: kind_of(word_at(args, 1)?)?,
-            number: number_at(args, 2)?,
-            torn: None,
-        };
-        Ok(Fault::Call(place_of(word_at(args, 0)?)?, fail))
-    }
-
-    /// The first write of the store leaves so many bytes.
-    pub fn torn_of(args: &[Vec<u8>]) -> Result<Fault, Fail> {
-        let fail = Failing {
-            call: CallKind::Write,
-            number: 1,
-            torn: Some(size_at(args, 0)?),
-        };
-        Ok(Fault::Call(Place::Cache, fail))
+    /// What the arguments of a row name: nothing; `fuse`, a folder and a number of calls; `fails`, a folder, the kind of a
+    /// call and its number; `torn` and how many bytes the first write of the store leaves; `text` and a number of bytes.
+    pub fn of(args: &[Vec<u8>]) -> Result<Fault, Fail> {
+        match word_at(args, 0)? {
+            "" => Ok(Fault::Nothing),
+            "fuse" => Ok(Fault::Fuse(place_at(args, 1)?, number_at(args, 2)?)),
+            "fails" => fails_at(args),
+            "torn" => torn_at(args),
+            "text" => Ok(Fault::Text(size_at(args, 1)?)),
+            _ => Err(Fail::new("no such fault")),
+        }
     }
 
     /// How many calls of a folder have an answer, where that is so.
@@ -74,8 +62,26 @@ impl Fault {
     }
 }
 
-fn place_of(word: &str) -> Result<Place, Fail> {
-    match word {
+fn fails_at(args: &[Vec<u8>]) -> Result<Fault, Fail> {
+    let fail = Failing {
+        call: kind_at(args, 2)?,
+        number: number_at(args, 3)?,
+        torn: None,
+    };
+    Ok(Fault::Call(place_at(args, 1)?, fail))
+}
+
+fn torn_at(args: &[Vec<u8>]) -> Result<Fault, Fail> {
+    let fail = Failing {
+        call: CallKind::Write,
+        number: 1,
+        torn: Some(size_at(args, 1)?),
+    };
+    Ok(Fault::Call(Place::Cache, fail))
+}
+
+fn place_at(args: &[Vec<u8>], place: usize) -> Result<Place, Fail> {
+    match word_at(args, place)? {
         "source" => Ok(Place::Source),
         "site" => Ok(Place::Site),
         "cache" => Ok(Place::Cache),
@@ -83,12 +89,10 @@ fn place_of(word: &str) -> Result<Place, Fail> {
     }
 }
 
-fn kind_of(word: &str) -> Result<CallKind, Fail> {
-    match word {
-        "list" => Ok(CallKind::List),
+fn kind_at(args: &[Vec<u8>], place: usize) -> Result<CallKind, Fail> {
+    match word_at(args, place)? {
         "read" => Ok(CallKind::Read),
         "write" => Ok(CallKind::Write),
-        "remove" => Ok(CallKind::Remove),
         _ => Err(Fail::new("no such call")),
     }
 }

@@ -1,6 +1,6 @@
 // Folders as the rows name them, and as trees in memory hold them.
 use hk_base::{NoMemory, Text};
-use hk_outside::{Fail as Failing, MemTree, Tree, TreeFault};
+use hk_outside::{Fail as Failing, MemTree, Tree};
 use std::alloc::{AllocError, Global};
 
 /// Files with what they hold, in the order in which they were named.
@@ -16,11 +16,17 @@ impl Folder {
         }
     }
 
-    /// One file.
-    pub fn of(alloc: Global, path: &[u8], bytes: &[u8]) -> Result<Folder, NoMemory> {
-        let mut folder = Folder::new(alloc);
-        folder.add(alloc, path, bytes)?;
-        Ok(folder)
+    /// How many files there are.
+    pub fn count(&self) -> usize {
+        self.files.len()
+    }
+
+    /// What the file that was named last holds.
+    pub fn last(&self) -> Option<&[u8]> {
+        match self.files.last() {
+            Some(file) => Some(file.1.as_slice()),
+            None => None,
+        }
     }
 
     /// Puts a file, or more at the end of the file that was named last.
@@ -36,7 +42,7 @@ impl Folder {
 
     fn ends_with(&self, path: &[u8]) -> bool {
         match self.files.last() {
-            Some(last) => last.0.as_slice() == path,
+            Some(file) => file.0.as_slice() == path,
             None => false,
         }
     }
@@ -48,20 +54,14 @@ impl Folder {
         fuse: Option<u64>,
         fail: Option<Failing>,
     ) -> Result<MemTree, NoMemory> {
-        let mut fails = Vec::new(alloc);
-        if let Some(fail) = fail {
-            fails.push(fail)?;
-        }
-        MemTree::new(alloc, self.texts(alloc)?, fails, fuse)
+        let texts = self.texts(alloc)?;
+        MemTree::new(alloc, texts, fails(alloc, fail)?, fuse)
     }
 
     fn texts(&self, alloc: Global) -> Result<Vec<(Text, Text)>, NoMemory> {
         let mut texts = Vec::new(alloc);
         for (path, bytes) in &self.files {
-            texts.push((
-                Text::from_slice(alloc, path)?,
-                Text::from_slice(alloc, bytes)?,
-            ))?;
+            texts.push(texts_of(alloc, path, bytes)?)?;
         }
         Ok(texts)
     }
@@ -77,25 +77,42 @@ impl Folder {
         Ok(left)
     }
 
-    /// Whether a tree, in which no call fails, holds these files and no other.
-    pub fn stands_in(&self, alloc: Global, tree: &mut MemTree) -> Result<bool, TreeFault> {
+    /// How many of these files a tree holds.
+    pub fn count_in(&self, tree: &MemTree) -> u64 {
+        let mut count = 0u64;
         for (path, bytes) in &self.files {
-            if tree.get(path) != Some(bytes.as_slice()) {
-                return Ok(false);
+            if tree.get(path) == Some(bytes.as_slice()) {
+                count = count.wrapping_add(1);
             }
         }
-        Ok(count(alloc, tree)? == self.files.len())
+        count
     }
 }
 
 fn add_to_last(files: &mut Vec<(Vec<u8>, Vec<u8>)>, bytes: &[u8]) -> Result<(), AllocError> {
-    if let Some(last) = files.last_mut() {
-        last.1.extend_from_slice(bytes)?;
+    if let Some(file) = files.last_mut() {
+        file.1.extend_from_slice(bytes)?;
     }
     Ok(())
 }
 
-/// How many files a tree has.
-fn count(alloc: Global, tree: &mut MemTree) -> Result<usize, TreeFault> {
-    Ok(tree.list(alloc)?.len())
+fn fails(alloc: Global, fail: Option<Failing>) -> Result<Vec<Failing>, AllocError> {
+    let mut fails = Vec::new(alloc);
+    if let Some(fail) = fail {
+        fails.push(fail)?;
+    }
+    Ok(fails)
+}
+
+fn texts_of(alloc: Global, path: &[u8], bytes: &[u8]) -> Result<(Text, Text), NoMemory> {
+    let path = Text::from_slice(alloc, path)?;
+    Ok((path, Text::from_slice(alloc, bytes)?))
+}
+
+/// How many files a tree lists, and none where it cannot be listed.
+pub fn listed(alloc: Global, tree: &mut MemTree) -> Option<usize> {
+    match tree.list(alloc) {
+        Ok(paths) => Some(paths.len()),
+        Err(_) => None,
+    }
 }

@@ -8,10 +8,16 @@ mod forging;
 mod gate;
 mod meeting;
 mod row;
+mod rows;
 mod runs;
 mod trial;
 
+use row::arguments;
+use rows::answer;
+use std::alloc::Global;
+use std::sync::Wait;
 use std::test::Fail;
+use std::thread::Threads;
 use trial::Trial;
 
 fn main(rt: HostRuntime) -> Result<(), Fail> {
@@ -19,12 +25,21 @@ fn main(rt: HostRuntime) -> Result<(), Fail> {
     let mut trial = Trial::new(alloc);
     for line in rt.lines(alloc) {
         let line = line?;
-        let (call, rest) = line.as_str().split_once('|').unwrap_or((line.as_str(), ""));
-        let args = row::arguments(alloc, rest)?;
-        if !trial.set(alloc, call, &args)? {
-            let text = trial.answer(&rt, alloc, call, &args)?;
+        if let Some(text) = told(&rt, alloc, &mut trial, line.as_str())? {
             println!(rt; "{line} -> {text}")?;
         }
     }
     Ok(())
+}
+
+/// What a row comes to: a word, and its arguments behind bars.
+fn told<R: Threads + Wait + Sync>(
+    rt: &R,
+    alloc: Global,
+    trial: &mut Trial,
+    line: &str,
+) -> Result<Option<String>, Fail> {
+    let (call, rest) = line.split_once('|').unwrap_or((line, ""));
+    let args = arguments(alloc, rest)?;
+    answer(rt, alloc, trial, call, &args)
 }

@@ -1,10 +1,11 @@
-// Runs on one thread.
-use crate::faults::{Fault, Place};
-use crate::folders::Folder;
-use hk_app::site_main_one;
+// Runs over folders in memory.
+use crate::gate::Meeting;
+use hk_app::{site_main, site_main_one};
 use hk_base::NoMemory;
 use hk_outside::{MemSink, MemTree};
-use std::alloc::{AllocError, Global};
+use std::alloc::Global;
+use std::sync::Wait;
+use std::thread::Threads;
 
 /// What a run finds, and what it leaves.
 #[derive(Drop)]
@@ -15,40 +16,11 @@ pub struct World {
     pub out: MemSink,
 }
 
-impl World {
-    pub fn new(
-        alloc: Global,
-        source: &Folder,
-        site: &Folder,
-        cache: &Folder,
-        fault: Fault,
-    ) -> Result<World, NoMemory> {
-        Ok(World {
-            source: tree(alloc, source, Place::Source, fault)?,
-            site: tree(alloc, site, Place::Site, fault)?,
-            cache: tree(alloc, cache, Place::Cache, fault)?,
-            out: fault.sink(alloc)?,
-        })
-    }
-}
-
-fn tree(alloc: Global, folder: &Folder, place: Place, fault: Fault) -> Result<MemTree, NoMemory> {
-    folder.tree(alloc, fault.calls_of(place), fault.fail_of(place))
-}
-
 /// A run that is over.
 #[derive(Drop)]
 pub struct Ran {
     pub status: u8,
     pub world: World,
-}
-
-impl Ran {
-    /// The status and the text.
-    pub fn shown(&self, alloc: Global) -> Result<String, AllocError> {
-        let text = self.world.out.as_slice();
-        format!(in alloc; "{} {}", self.status, text.escape_ascii())
-    }
 }
 
 /// The words of a line.
@@ -60,8 +32,8 @@ pub fn words_of(alloc: Global, line: &str) -> Result<Vec<String>, NoMemory> {
     Ok(words)
 }
 
-/// Does what the words say. It has no promise, so that its callers carry none.
-pub fn run(alloc: Global, words: Vec<String>, mut world: World) -> Ran {
+/// Does what the words say, on one thread. It has no promise, so that its callers carry none.
+pub fn run_one(alloc: Global, words: Vec<String>, mut world: World) -> Ran {
     let status = site_main_one(
         alloc,
         &words,
@@ -69,6 +41,30 @@ pub fn run(alloc: Global, words: Vec<String>, mut world: World) -> Ran {
         &mut world.site,
         &mut world.cache,
         &mut world.out,
+    );
+    Ran {
+        status: status.code(),
+        world,
+    }
+}
+
+/// Does what the words say, with the gate told of each poll. It has no promise, so that its callers carry none.
+pub fn run_at<R: Threads + Wait + Sync>(
+    rt: &R,
+    alloc: Global,
+    words: Vec<String>,
+    mut world: World,
+    gate: &Meeting,
+) -> Ran {
+    let status = site_main(
+        rt,
+        alloc,
+        &words,
+        &mut world.source,
+        &mut world.site,
+        &mut world.cache,
+        &mut world.out,
+        gate,
     );
     Ran {
         status: status.code(),

@@ -1,138 +1,176 @@
-// What the rows name, and what each of them comes to.
+// The folders that the rows name and the runs leave, and what a run in them comes to.
 use crate::faults::{Fault, Place};
-use crate::folders::Folder;
-use crate::row::{bytes_at, number_at, size_at, word_at};
-use crate::runs::{Ran, World, run, words_of};
-use crate::{forging, meeting};
+use crate::folders::{Folder, listed};
+use crate::gate::Meeting;
+use crate::row::bytes_at;
+use crate::runs::{Ran, World, run_at, run_one, words_of};
 use hk_base::NoMemory;
-use std::alloc::Global;
+use hk_outside::MemTree;
+use std::alloc::{AllocError, Global};
 use std::sync::Wait;
 use std::test::Fail;
 use std::thread::Threads;
 
-/// The files of the source, those that stand in the site at the start, and the pages that it must have at the end.
+/// The files of the source, the pages that the site must have, and what the site and the cache hold today.
 #[derive(Drop)]
 pub struct Trial {
     source: Folder,
-    site: Folder,
     pages: Folder,
+    site: Folder,
+    cache: Folder,
 }
 
 impl Trial {
     pub fn new(alloc: Global) -> Trial {
         Trial {
             source: Folder::new(alloc),
-            site: Folder::new(alloc),
             pages: Folder::new(alloc),
+            site: Folder::new(alloc),
+            cache: Folder::new(alloc),
         }
     }
 
-    /// Takes a row that names a file, or that begins anew, and says whether it is one.
-    pub fn set(&mut self, alloc: Global, call: &str, args: &[Vec<u8>]) -> Result<bool, Fail> {
+    /// Takes a row that names a file.
+    pub fn set(&mut self, alloc: Global, call: &str, args: &[Vec<u8>]) -> Result<(), Fail> {
         match call {
-            "new" => *self = Trial::new(alloc),
-            "file" => put(alloc, &mut self.source, args)?,
-            "before" => put(alloc, &mut self.site, args)?,
-            "page" => put(alloc, &mut self.pages, args)?,
-            _ => return Ok(false),
-        }
-        Ok(true)
-    }
-
-    /// What a row of runs comes to.
-    pub fn answer<R: Threads + Wait + Sync>(
-        &self,
-        rt: &R,
-        alloc: Global,
-        call: &str,
-        args: &[Vec<u8>],
-    ) -> Result<String, Fail> {
-        match call {
-            "fuse" => self.mended(alloc, Fault::fuse_of(args)?),
-            "fails" => self.mended(alloc, Fault::call_of(args)?),
-            "torn" => self.mended(alloc, Fault::torn_of(args)?),
-            "text" => self.mended(alloc, Fault::Text(size_at(args, 0)?)),
-            "clean" => self.cleaned(alloc, Fault::Fuse(Place::Site, number_at(args, 0)?)),
-            "cut" => forging::cut(alloc, self, bytes_at(args, 0)?),
-            "forged" => forging::forged(alloc, self, bytes_at(args, 0)?),
-            "meeting" => meeting::met(rt, alloc, self, word_at(args, 0)?),
+            "file" => put(alloc, &mut self.source, args),
+            "page" => put(alloc, &mut self.pages, args),
+            "site" => put(alloc, &mut self.site, args),
             _ => Err(Fail::new("no such row")),
         }
     }
 
-    /// A build in which something fails, and the next one.
-    fn mended(&self, alloc: Global, fault: Fault) -> Result<String, Fail> {
-        let first = self.build(alloc, fault)?;
-        let second = self.go_on(alloc, "build", &first, Fault::Nothing)?;
-        let (first, second) = (first.shown(alloc)?, self.told(alloc, second)?);
-        Ok(format!(in alloc; "{first}; {second}")?)
+    /// Empties the site and the cache.
+    pub fn clear(&mut self, alloc: Global) {
+        self.site = Folder::new(alloc);
+        self.cache = Folder::new(alloc);
     }
 
-    /// After a build, a cleaning in which something fails, and the next one.
-    fn cleaned(&self, alloc: Global, fault: Fault) -> Result<String, Fail> {
-        let built = self.build(alloc, Fault::Nothing)?;
-        let first = self.go_on(alloc, "clean", &built, fault)?;
-        let second = self.go_on(alloc, "clean", &first, Fault::Nothing)?;
-        let (first, second) = (first.shown(alloc)?, second.shown(alloc)?);
-        Ok(format!(in alloc; "{first}; {second}")?)
+    /// Puts a store into the cache.
+    pub fn put_store(&mut self, alloc: Global, store: &[u8]) -> Result<(), NoMemory> {
+        self.cache = store_folder(alloc, store)?;
+        Ok(())
     }
 
-    /// What a first run finds: there is no store.
-    pub fn begin(&self, alloc: Global, fault: Fault) -> Result<World, NoMemory> {
-        World::new(alloc, &self.source, &self.site, &Folder::new(alloc), fault)
+    /// The store in the cache.
+    pub fn store(&self) -> Option<&[u8]> {
+        self.cache.last()
     }
 
-    /// A first build.
-    pub fn build(&self, alloc: Global, fault: Fault) -> Result<Ran, NoMemory> {
-        let world = self.begin(alloc, fault)?;
-        Ok(run(alloc, words_of(alloc, "build")?, world))
+    /// What a run on one thread comes to: the status and the text, how many of the pages then stand, whether other files do,
+    /// and how many bytes the store has. What stands is there for the next run.
+    pub fn run(&mut self, alloc: Global, line: &str, fault: Fault) -> Result<String, NoMemory> {
+        let words = words_of(alloc, line)?;
+        let world = self.world(alloc, fault)?;
+        self.take(alloc, run_one(alloc, words, world))
     }
 
-    /// A run over the pages and the store that another one left.
-    fn go_on(
-        &self,
+    /// What a run comes to whose polls go through a gate.
+    pub fn run_at<R: Threads + Wait + Sync>(
+        &mut self,
+        rt: &R,
         alloc: Global,
         line: &str,
-        before: &Ran,
-        fault: Fault,
-    ) -> Result<Ran, NoMemory> {
-        let site = self.pages.left_in(alloc, &before.world.site)?;
-        let cache = Folder::of(alloc, b"store", b"")?.left_in(alloc, &before.world.cache)?;
-        let world = World::new(alloc, &self.source, &site, &cache, fault)?;
-        Ok(run(alloc, words_of(alloc, line)?, world))
+        gate: &Meeting,
+    ) -> Result<String, NoMemory> {
+        let words = words_of(alloc, line)?;
+        let world = self.world(alloc, Fault::Nothing)?;
+        self.take(alloc, run_at(rt, alloc, words, world, gate))
     }
 
-    /// A build over the site of the start and a store.
-    pub fn build_over(&self, alloc: Global, store: &[u8]) -> Result<Ran, NoMemory> {
-        self.over(alloc, &self.site, store)
+    fn world(&self, alloc: Global, fault: Fault) -> Result<World, NoMemory> {
+        Ok(World {
+            source: tree(alloc, &self.source, Place::Source, fault)?,
+            site: tree(alloc, &self.site, Place::Site, fault)?,
+            cache: tree(alloc, &self.cache, Place::Cache, fault)?,
+            out: fault.sink(alloc)?,
+        })
     }
 
-    /// A build over the right pages and a store.
-    pub fn rebuild_over(&self, alloc: Global, store: &[u8]) -> Result<Ran, NoMemory> {
-        self.over(alloc, &self.pages, store)
+    /// Takes what a run left, and tells of it.
+    fn take(&mut self, alloc: Global, mut ran: Ran) -> Result<String, NoMemory> {
+        let pages = self.shown_pages(alloc, &mut ran.world.site)?;
+        self.keep(alloc, &ran.world.site, &ran.world.cache)?;
+        let text = shown(alloc, ran.status, ran.world.out.as_slice())?;
+        Ok(with_store(alloc, &text, &pages, self.store())?)
     }
 
-    fn over(&self, alloc: Global, site: &Folder, store: &[u8]) -> Result<Ran, NoMemory> {
-        let cache = Folder::of(alloc, b"store", store)?;
-        let world = World::new(alloc, &self.source, site, &cache, Fault::Nothing)?;
-        Ok(run(alloc, words_of(alloc, "build")?, world))
+    fn keep(&mut self, alloc: Global, site: &MemTree, cache: &MemTree) -> Result<(), NoMemory> {
+        self.site = self.pages.left_in(alloc, site)?;
+        self.cache = store_folder(alloc, b"")?.left_in(alloc, cache)?;
+        Ok(())
     }
 
-    /// Whether a run left exactly the right pages.
-    pub fn has_pages(&self, alloc: Global, ran: &mut Ran) -> Result<bool, Fail> {
-        Ok(self.pages.stands_in(alloc, &mut ran.world.site)?)
+    /// How many of the pages a site has, and whether it has other files, where it can be listed.
+    fn shown_pages(&self, alloc: Global, site: &mut MemTree) -> Result<String, AllocError> {
+        let (right, all) = (self.pages.count_in(site), self.pages.count());
+        match listed(alloc, site) {
+            Some(count) if count as u64 != right => {
+                format!(in alloc; "{right} of {all} pages among {count} files")
+            }
+            _ => format!(in alloc; "{right} of {all} pages"),
+        }
     }
 
-    /// The status and the text of a run, and whether it left exactly the right pages.
-    pub fn told(&self, alloc: Global, mut ran: Ran) -> Result<String, Fail> {
-        let right = self.has_pages(alloc, &mut ran)?;
-        let pages = if right { "right pages" } else { "other pages" };
-        let text = ran.shown(alloc)?;
-        Ok(format!(in alloc; "{text}; {pages}")?)
+    /// Whether a build over the pages and a store prints the text and leaves exactly the pages.
+    pub fn is_passed_over(
+        &self,
+        alloc: Global,
+        store: &[u8],
+        text: &[u8],
+    ) -> Result<bool, NoMemory> {
+        let words = words_of(alloc, "build")?;
+        let world = self.world_over(alloc, store)?;
+        Ok(self.has_said(alloc, run_one(alloc, words, world), text))
+    }
+
+    fn world_over(&self, alloc: Global, store: &[u8]) -> Result<World, NoMemory> {
+        let cache = store_folder(alloc, store)?;
+        Ok(World {
+            source: self.source.tree(alloc, None, None)?,
+            site: self.pages.tree(alloc, None, None)?,
+            cache: cache.tree(alloc, None, None)?,
+            out: Fault::Nothing.sink(alloc)?,
+        })
+    }
+
+    fn has_said(&self, alloc: Global, mut ran: Ran, text: &[u8]) -> bool {
+        ran.world.out.as_slice() == text && self.is_all_of(alloc, &mut ran.world.site)
+    }
+
+    fn is_all_of(&self, alloc: Global, site: &mut MemTree) -> bool {
+        let all = self.pages.count();
+        self.pages.count_in(site) == all as u64 && listed(alloc, site) == Some(all)
     }
 }
 
 fn put(alloc: Global, folder: &mut Folder, args: &[Vec<u8>]) -> Result<(), Fail> {
     folder.add(alloc, bytes_at(args, 0)?, bytes_at(args, 1)?)?;
     Ok(())
+}
+
+fn store_folder(alloc: Global, store: &[u8]) -> Result<Folder, NoMemory> {
+    let mut folder = Folder::new(alloc);
+    folder.add(alloc, b"store", store)?;
+    Ok(folder)
+}
+
+fn tree(alloc: Global, folder: &Folder, place: Place, fault: Fault) -> Result<MemTree, NoMemory> {
+    folder.tree(alloc, fault.calls_of(place), fault.fail_of(place))
+}
+
+fn shown(alloc: Global, status: u8, text: &[u8]) -> Result<String, AllocError> {
+    format!(in alloc; "{status} {}", text.escape_ascii())
+}
+
+fn with_store(
+    alloc: Global,
+    text: &str,
+    pages: &str,
+    store: Option<&[u8]>,
+) -> Result<String, AllocError> {
+    match store {
+        Some(bytes) => format!(in alloc; "{text}; {pages}, store of {} bytes", bytes.len()),
+        None => format!(in alloc; "{text}; {pages}, no store"),
+    }
 }
