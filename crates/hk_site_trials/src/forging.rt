@@ -18,21 +18,29 @@ fn trailer_of(text: &[u8]) -> [u8; 32] {
     hasher.finalize()
 }
 
-/// Over how many fronts of the store, from none of its bytes to all but the last, a build prints the text and leaves
-/// exactly the pages.
-pub fn cut(alloc: Global, trial: &Trial, text: &[u8]) -> Result<String, Fail> {
+/// Over how many fronts of the store, from none of its bytes on, a build prints the text and leaves exactly the pages, and
+/// how many were tried: those whose length has no bit in common with the mask, so all of them where it is 0.
+pub fn cut(alloc: Global, trial: &Trial, mask: usize, text: &[u8]) -> Result<String, Fail> {
     let store = trial.store().ok_or("no store")?;
-    let right = passed_over(alloc, trial, store, text)?;
-    let all = store.len();
-    Ok(format!(in alloc; "{right} of {all} fronts")?)
+    let (right, tried) = passed_over(alloc, trial, store, mask, text)?;
+    Ok(format!(in alloc; "{right} of {tried} fronts")?)
 }
 
-fn passed_over(alloc: Global, trial: &Trial, store: &[u8], text: &[u8]) -> Result<u64, NoMemory> {
-    let mut right = 0u64;
+fn passed_over(
+    alloc: Global,
+    trial: &Trial,
+    store: &[u8],
+    mask: usize,
+    text: &[u8],
+) -> Result<(u64, u64), NoMemory> {
+    let (mut right, mut tried) = (0u64, 0u64);
     for count in 0..store.len() {
-        if trial.is_passed_over(alloc, &store[..count], text)? {
-            right = right.wrapping_add(1);
+        if count & mask == 0 {
+            tried = tried.wrapping_add(1);
+            if trial.is_passed_over(alloc, &store[..count], text)? {
+                right = right.wrapping_add(1);
+            }
         }
     }
-    Ok(right)
+    Ok((right, tried))
 }

@@ -1,5 +1,7 @@
 //! Trials of the top call over folders in memory: reads rows of files, of runs in which a call fails, and of stores that
-//! were changed, and prints behind each run what it comes to, and what the next one does.
+//! were cut or written by hand, and prints behind each run what it comes to and what stands then. The next row goes on from
+//! that. A build of the tutorial site makes 13 calls of the source, 17 of the site and 2 of the cache, which are its read and
+//! its write of the store: a fuse of so many stops nothing, and the write of the store is also torn.
 #![tactic(auto)]
 
 mod faults;

@@ -2,7 +2,7 @@
 use crate::faults::Fault;
 use crate::forging::{cut, sealed};
 use crate::meeting::met;
-use crate::row::{bytes_at, word_at};
+use crate::row::{bytes_at, size_at, word_at};
 use crate::trial::Trial;
 use std::alloc::Global;
 use std::sync::Wait;
@@ -20,7 +20,7 @@ pub fn answer<R: Threads + Wait + Sync>(
 ) -> Result<Option<String>, Fail> {
     match call {
         "build" | "clean" => Ok(Some(trial.run(alloc, call, Fault::of(args)?)?)),
-        "cut" => Ok(Some(cut(alloc, trial, bytes_at(args, 0)?)?)),
+        "cut" => Ok(Some(cut(alloc, trial, size_at(args, 0)?, bytes_at(args, 1)?)?)),
         "meeting" => Ok(Some(met(rt, alloc, trial, word_at(args, 0)?)?)),
         _ => change(alloc, trial, call, args),
     }
