@@ -7,12 +7,18 @@ use std::alloc::Global;
 use std::sync::Wait;
 use std::thread::Threads;
 
+/// The folders that a run changes.
+#[derive(Drop)]
+pub struct Left {
+    pub site: MemTree,
+    pub cache: MemTree,
+}
+
 /// What a run finds, and what it leaves.
 #[derive(Drop)]
 pub struct World {
     pub source: MemTree,
-    pub site: MemTree,
-    pub cache: MemTree,
+    pub left: Left,
     pub out: MemSink,
 }
 
@@ -38,8 +44,8 @@ pub fn run_one(alloc: Global, words: Vec<String>, mut world: World) -> Ran {
         alloc,
         &words,
         &mut world.source,
-        &mut world.site,
-        &mut world.cache,
+        &mut world.left.site,
+        &mut world.left.cache,
         &mut world.out,
     );
     Ran {
@@ -61,8 +67,8 @@ pub fn run_at<R: Threads + Wait + Sync>(
         alloc,
         &words,
         &mut world.source,
-        &mut world.site,
-        &mut world.cache,
+        &mut world.left.site,
+        &mut world.left.cache,
         &mut world.out,
         gate,
     );

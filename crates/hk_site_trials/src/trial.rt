@@ -3,7 +3,7 @@ use crate::faults::{Fault, Place};
 use crate::folders::{Folder, listed};
 use crate::gate::Meeting;
 use crate::row::bytes_at;
-use crate::runs::{Ran, World, run_at, run_one, words_of};
+use crate::runs::{Left, Ran, World, run_at, run_one, words_of};
 use hk_base::NoMemory;
 use hk_outside::MemTree;
 use std::alloc::{AllocError, Global};
@@ -61,8 +61,9 @@ impl Trial {
     /// and how many bytes the store has. What stands is there for the next run.
     pub fn run(&mut self, alloc: Global, line: &str, fault: Fault) -> Result<String, NoMemory> {
         let words = words_of(alloc, line)?;
-        let world = self.world(alloc, fault)?;
-        self.take(alloc, run_one(alloc, words, world))
+        let world = self.world(alloc, &self.site, &self.cache, fault)?;
+        let mut ran = run_one(alloc, words, world);
+        self.take(alloc, &mut ran)
     }
 
     /// What a run comes to whose polls go through a gate.
@@ -74,30 +75,35 @@ impl Trial {
         gate: &Meeting,
     ) -> Result<String, NoMemory> {
         let words = words_of(alloc, line)?;
-        let world = self.world(alloc, Fault::Nothing)?;
-        self.take(alloc, run_at(rt, alloc, words, world, gate))
+        let world = self.world(alloc, &self.site, &self.cache, Fault::Nothing)?;
+        let mut ran = run_at(rt, alloc, words, world, gate);
+        self.take(alloc, &mut ran)
     }
 
-    fn world(&self, alloc: Global, fault: Fault) -> Result<World, NoMemory> {
-        Ok(World {
-            source: tree(alloc, &self.source, Place::Source, fault)?,
-            site: tree(alloc, &self.site, Place::Site, fault)?,
-            cache: tree(alloc, &self.cache, Place::Cache, fault)?,
-            out: fault.sink(alloc)?,
-        })
+    fn world(
+        &self,
+        alloc: Global,
+        site: &Folder,
+        cache: &Folder,
+        fault: Fault,
+    ) -> Result<World, NoMemory> {
+        let out = fault.sink(alloc)?;
+        let source = tree(alloc, &self.source, Place::Source, fault)?;
+        let left = left(alloc, site, cache, fault)?;
+        Ok(World { source, left, out })
     }
 
     /// Takes what a run left, and tells of it.
-    fn take(&mut self, alloc: Global, mut ran: Ran) -> Result<String, NoMemory> {
-        let pages = self.shown_pages(alloc, &mut ran.world.site)?;
-        self.keep(alloc, &ran.world.site, &ran.world.cache)?;
+    fn take(&mut self, alloc: Global, ran: &mut Ran) -> Result<String, NoMemory> {
         let text = shown(alloc, ran.status, ran.world.out.as_slice())?;
+        let pages = self.shown_pages(alloc, &mut ran.world.left.site)?;
+        self.keep(alloc, &ran.world.left)?;
         Ok(with_store(alloc, &text, &pages, self.store())?)
     }
 
-    fn keep(&mut self, alloc: Global, site: &MemTree, cache: &MemTree) -> Result<(), NoMemory> {
-        self.site = self.pages.left_in(alloc, site)?;
-        self.cache = store_folder(alloc, b"")?.left_in(alloc, cache)?;
+    fn keep(&mut self, alloc: Global, left: &Left) -> Result<(), NoMemory> {
+        self.site = self.pages.left_in(alloc, &left.site)?;
+        self.cache = store_folder(alloc, b"")?.left_in(alloc, &left.cache)?;
         Ok(())
     }
 
@@ -120,22 +126,14 @@ impl Trial {
         text: &[u8],
     ) -> Result<bool, NoMemory> {
         let words = words_of(alloc, "build")?;
-        let world = self.world_over(alloc, store)?;
-        Ok(self.has_said(alloc, run_one(alloc, words, world), text))
-    }
-
-    fn world_over(&self, alloc: Global, store: &[u8]) -> Result<World, NoMemory> {
         let cache = store_folder(alloc, store)?;
-        Ok(World {
-            source: self.source.tree(alloc, None, None)?,
-            site: self.pages.tree(alloc, None, None)?,
-            cache: cache.tree(alloc, None, None)?,
-            out: Fault::Nothing.sink(alloc)?,
-        })
+        let world = self.world(alloc, &self.pages, &cache, Fault::Nothing)?;
+        let mut ran = run_one(alloc, words, world);
+        Ok(self.has_said(alloc, &mut ran, text))
     }
 
-    fn has_said(&self, alloc: Global, mut ran: Ran, text: &[u8]) -> bool {
-        ran.world.out.as_slice() == text && self.is_all_of(alloc, &mut ran.world.site)
+    fn has_said(&self, alloc: Global, ran: &mut Ran, text: &[u8]) -> bool {
+        ran.world.out.as_slice() == text && self.is_all_of(alloc, &mut ran.world.left.site)
     }
 
     fn is_all_of(&self, alloc: Global, site: &mut MemTree) -> bool {
@@ -153,6 +151,14 @@ fn store_folder(alloc: Global, store: &[u8]) -> Result<Folder, NoMemory> {
     let mut folder = Folder::new(alloc);
     folder.add(alloc, b"store", store)?;
     Ok(folder)
+}
+
+fn left(alloc: Global, site: &Folder, cache: &Folder, fault: Fault) -> Result<Left, NoMemory> {
+    let site = tree(alloc, site, Place::Site, fault)?;
+    Ok(Left {
+        site,
+        cache: tree(alloc, cache, Place::Cache, fault)?,
+    })
 }
 
 fn tree(alloc: Global, folder: &Folder, place: Place, fault: Fault) -> Result<MemTree, NoMemory> {
