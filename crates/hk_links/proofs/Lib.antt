@@ -1,0 +1,4 @@
+pub mod PartLemmas
+pub mod RelativeLemmas
+pub mod ReportLemmas
+pub mod SearchLemmas
