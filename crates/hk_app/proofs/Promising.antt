@@ -5,7 +5,6 @@ use Rattle.hk_base.specs.Bytes.{Bytes, Files}
 use Rattle.hk_build.specs.Build.{is_empty, report}
 use Rattle.hk_build.specs.Linked.{all_lead}
 use Rattle.hk_outside.specs.Causes.{Rose}
-use Rattle.hk_reuse.specs.Entries.{no_entries}
 use Rattle.hk_rules.specs.PlanView.{PlanView}
 use Rattle.hk_words.specs.declared.commands.Command.{Command}
 use Rattle.hk_words.specs.declared.commands.Command.TheVariants.{Build, Rebuild, Check, Deps, Clean, Generate, Links}
@@ -13,7 +12,7 @@ use Rattle.hk_words.specs.Words.{command}
 use Rattle.hk_app.specs.declared.status.Status.{Status}
 use Rattle.hk_app.specs.declared.status.Status.TheVariants.{Ok as Done, Report, Usage, BadRules, BadSite, ReadFault, WriteFault, StoreFault, OutFault, NoMemory, BadLinks}
 use Rattle.hk_app.specs.Promise.{Plans, Runs, IsPlanOf, reads_source, AllEnd, SomeStop, AllButStore, whole, stopped, EndsWhole, EndsStopped, EndsUnwritten, EndsUnsaved, Says, Builds, Reports, FailsWriting, FailsSaving, FailsReading}
-use Rattle.hk_app.specs.Promise.{HasLinks, IsBadLinks, IsNamed, IsStopped, IsWriteFault, IsStoreFault, IsBadRules, IsBadSite, IsUnplanned, Comes, Holds, IsTornBuilt, IsPast, StoreLeft, saved, unsaved, torn_store}
+use Rattle.hk_app.specs.Promise.{HasLinks, IsBadLinks, page_list, IsNamed, IsStopped, IsWriteFault, IsStoreFault, IsBadRules, IsBadSite, IsUnplanned, Comes, Holds, IsTornBuilt, IsPast, StoreLeft, saved, unsaved, torn_store}
 use Rattle.hk_app.specs.Promise.{StopsBuild, unbegun, torn_site, past, clearing_site, clearing_cache, Leaves, IsSound, HasSoundPlan, IsExcused, failed, unsaid, wanting, of_source, of_site, of_cache, EndsWell, Promise}
 use Rattle.hk_app.specs.Run.{Ends, SaysAs}
 use Rattle.hk_app.specs.Site.{Reading, absent, refused, unplanned, planned, reading}
@@ -181,7 +180,7 @@ not-bad (Generate o) old new text s h = absurd h
 not-bad Links old new text s h =
     let p = at-some (λ m. (plan : PlanView) × IsPlanOf m plan × HasLinks false text plan) s.told h.run in
     let same : p.0 ≡ s.plan = one-plan p.0 s.plan (sym p.1.read ∙ s.planned) in
-    let twice : true ≡ false = sym s.links ∙ ap (λ plan. all_lead plan no_entries) (sym same) ∙ p.2.links in
+    let twice : true ≡ false = sym s.links ∙ ap (λ plan. all_lead (page_list plan)) (sym same) ∙ p.2.links in
     cc
 
 -- what is sound is not refused

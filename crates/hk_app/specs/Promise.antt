@@ -2,9 +2,11 @@
 use Rattle.std.specs.Prelude.{◌≡◌, ◌⊎◌, ℕ, ◌+◌, ◌≤◌, Bool, true, false, List, [], ◌++◌, Option, Some, None, IfSome, length, take}
 use Rattle.std.specs.FinMap.{keys}
 use Rattle.hk_base.specs.Bytes.{Bytes, Files}
-use Rattle.hk_build.specs.Build.{compiled, endings, image, is_empty, report, reused, run_of, seeds, shown, site_of}
+use Rattle.hk_build.specs.Build.{compiled, endings, image, is_empty, pages, report, reused, run_of, seeds, shown, site_of}
 use Rattle.hk_build.specs.Linked.{all_lead, link_lines}
+use Rattle.hk_build.specs.Pages.{pages_at}
 use Rattle.hk_build.specs.Planned.{IsPlanned}
+use Rattle.hk_chain.specs.declared.page.Page.{Page}
 use Rattle.hk_fix.specs.declared.event.Event.{Event}
 use Rattle.hk_fix.specs.Fix.{IsComplete}
 use Rattle.hk_gen.specs.Site.{site}
@@ -182,11 +184,15 @@ pub record Generates (o : GenerateOptions) (P : PlanView → Type 0) (old new : 
   pub folders : Untouched old new
   pub run : PlansGenerated o P
 
+-- the pages of the site, from nothing that is kept, in the order of their targets
+abbrev pub page_list : PlanView → List (Bytes × Page)
+page_list plan = pages_at plan (pages plan no_entries)
+
 -- all items are done, each link leads somewhere or not, and the text says which links don't and how many there are
 pub record HasLinks (lead : Bool) (said : Bytes) (plan : PlanView) : Type 0 where
   pub all : AllEnd plan nothing
-  pub links : all_lead plan no_entries ≡ lead
-  pub text : said ≡ link_lines plan no_entries
+  pub links : all_lead (page_list plan) ≡ lead
+  pub text : said ≡ link_lines (page_list plan)
 
 pub record TestsLinks (lead : Bool) (old new : Folders) (said : Bytes) : Type 0 where
   pub site : Same old.site new.site
@@ -449,7 +455,7 @@ pub record HasLeadingPlan (old : Folders) : Type 0 where
   pub plan : PlanView
   pub planned : reading files ≡ planned plan
   pub all : AllEnd plan nothing
-  pub links : all_lead plan no_entries ≡ true
+  pub links : all_lead (page_list plan) ≡ true
 
 abbrev pub IsSound : Command → Folders → Type 0
 IsSound Clean old = Unit {0}

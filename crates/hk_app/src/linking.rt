@@ -1,6 +1,7 @@
 // The command that tests the links of a site.
 ghost use Rattle.std.specs.Prelude.{◌≡◌, IfOk};
 ghost use Rattle.hk_build.specs.Planned.{IsPlanned};
+ghost use Rattle.hk_app.specs.Linking as spec;
 ghost use Rattle.hk_app.specs.Linking.{EndsLinks};
 ghost use Rattle.hk_app.specs.Run.{EndsAs};
 ghost use Rattle.hk_app.specs.World.{Folder, folder, folders};
@@ -11,7 +12,7 @@ use crate::checking::{Compiled, compile};
 use crate::ended::Ended;
 use crate::reading::{Gathered, gather};
 use hk_base::{NoMemory, Shared};
-use hk_build::link_lines;
+use hk_build::{LinkLines, link_lines};
 use hk_outside::Tree;
 use hk_rules::Plan;
 use std::alloc::Global;
@@ -36,17 +37,21 @@ fn test_links(alloc: Global, plan: Plan) -> Result<Ended, NoMemory>
     let plan = Shared::new(alloc, plan)?;
     match compile(alloc, &plan)? {
         Compiled::Stopped(ended) => Ok(ended),
-        Compiled::Whole(results) => {
-            let lines = link_lines(alloc, plan.get(), &results)?;
-            Ok(Ended {
-                status: status_of(lines.all_lead),
-                text: lines.text,
-            })
-        }
+        Compiled::Whole(results) => Ok(tested(link_lines(alloc, plan.get(), &results)?)),
     }
 }
 
-/// What the command comes to where all links lead somewhere, or not all.
-fn status_of(all_lead: bool) -> Status {
-    if all_lead { Status::Ok } else { Status::BadLinks }
+/// What the command comes to where each link leads somewhere, or not.
+fn tested(lines: LinkLines) -> Ended
+    ensures status { result.status ≡ spec.status_of lines.all_lead }
+    ensures text { result.text ≡ lines.text }
+{
+    Ended {
+        status: if lines.all_lead {
+            Status::Ok
+        } else {
+            Status::BadLinks
+        },
+        text: lines.text,
+    }
 }

@@ -1,10 +1,8 @@
 // The links of a site's pages that lead nowhere inside it.
-ghost use Rattle.std.specs.Prelude.{◌≡◌, ◌<◌, ◌^◌, true, IfOk, IsTrue, length, map};
-ghost use Rattle.hk_base.specs.Bytes.{ascends};
-ghost use Rattle.hk_reuse.specs.Entries.{Entries};
-ghost use Rattle.hk_build.specs.Build as build;
-ghost use Rattle.hk_build.specs.Built.{AreResults};
-ghost use Rattle.hk_build.specs.Linked as spec;
+ghost use Rattle.std.specs.Prelude.{◌≡◌, IfOk, map};
+ghost use Rattle.hk_chain.specs.Kept.{at_place};
+ghost use Rattle.hk_build.specs.Linked.{AreLines};
+ghost use Rattle.hk_build.specs.Pages as spec;
 
 use crate::pages::site_pages;
 use hk_base::{NoMemory, Text};
@@ -15,20 +13,21 @@ use hk_rules::Plan;
 use hk_writer::PageOut;
 use std::alloc::Global;
 
-/// A line for each link of a site that leads nowhere inside it, with one that counts, and whether all links lead somewhere.
+/// A line for each link that leads nowhere and one that counts, and whether each link leads somewhere.
 #[derive(Drop)]
 pub struct LinkLines {
     pub text: Text,
     pub all_lead: bool,
 }
 
-/// What is printed of the links of a plan's pages, whose items are all done. `NoMemory` only for want of memory. Linear in
-/// the bytes of the pages, with `n log n` comparisons of targets and one search among them for each link.
+/// What is printed of the links of a build's pages. `NoMemory` only for want of memory. Linear in the bytes of the pages, with
+/// `n log n` comparisons of targets and one search among them for each link.
 pub fn link_lines(alloc: Global, plan: &Plan, results: &Results) -> Result<LinkLines, NoMemory>
-    ensures { IfOk result (λ l. (over : Entries) → AreResults plan.now over results.now → build.is_empty (build.report plan.now over) ≡ true
-        → spec.AreLines plan.now over l) }
+    ensures { IfOk result (AreLines (spec.pages_at plan.now (at_place results.now.pages))) }
 {
-    let (targets, pages) = apart(alloc, site_pages(alloc, plan, results)?)?;
+    let _items = plan.count();
+    let outs = site_pages(alloc, plan, results)?;
+    let (targets, pages) = apart(alloc, outs)?;
     let report = check_links(alloc, &targets, &pages)?;
     Ok(LinkLines {
         text: links_text(alloc, &targets, &report)?,
@@ -38,8 +37,8 @@ pub fn link_lines(alloc: Global, plan: &Plan, results: &Results) -> Result<LinkL
 
 /// The targets of pages, and the pages.
 fn apart(alloc: Global, outs: Vec<PageOut>) -> Result<(Vec<Text>, Vec<PageRef>), NoMemory>
-    ensures targets { IfOk result (λ r. r.0.items ≡ map (λ out. out.target) outs.items) }
-    ensures pages { IfOk result (λ r. r.1.items ≡ map (λ out. out.page) outs.items) }
+    ensures targets { IfOk result (λ r. r.0.items ≡ map (λ e. e.0) (map spec.placed_out outs.items)) }
+    ensures pages { IfOk result (λ r. r.1.items ≡ map (λ e. e.1) (map spec.placed_out outs.items)) }
 {
     let mut targets = Vec::with_capacity(alloc, outs.len())?;
     let mut pages = Vec::with_capacity(alloc, outs.len())?;
