@@ -32,7 +32,7 @@ use Rattle.hk_reuse.specs.Entries.{Entries}
 use Rattle.hk_rules.specs.PlanView.{PlanView}
 use Rattle.hk_rules.specs.Plan.{lookups}
 use Rattle.hk_writer.specs.declared.page_out.PageOut.{PageOut}
-use Rattle.hk_writer.specs.Pages.{page_of, pages_of}
+use Rattle.hk_writer.specs.Pages.{pages_of}
 use Rattle.hk_build.specs.Build.{ending, endings, is_empty, pages, report, site_of}
 use Rattle.hk_build.specs.Built.{AreResults}
 use Rattle.hk_build.specs.Pages.{bodies, in_order, page_at, pages_at, placed, placed_out, with_page}
