@@ -95,7 +95,7 @@ task-leaves c old new Usage text h = absurd h
 task-leaves c old new OutFault text h = absurd h
 task-leaves c old new NoMemory text h = absurd h
 
-leaves : (words : List Bytes) (old new : Folders) (status : Status) (text : Bytes) → Holds words old new status text → Leaves (command words) old new
+pub leaves : (words : List Bytes) (old new : Folders) (status : Status) (text : Bytes) → Holds words old new status text → Leaves (command words) old new
 leaves words old new Usage text h = subst (λ o. Leaves o old new) (sym h.cause) h.folders
 leaves words old new Done text h = subst (λ o. Leaves o old new) (sym h.asked) (task-leaves h.task old new Done text h.comes)
 leaves words old new Report text h = subst (λ o. Leaves o old new) (sym h.asked) (task-leaves h.task old new Report text h.comes)

@@ -1,5 +1,5 @@
 -- What is taken of an honest store, and what a build over it leaves.
-use Rattle.std.proofs.Common.{◌≡◌, ℕ, zero, suc, ◌<◌, Bool, List, [], ◌∷◌, ◌++◌, length, append_assoc, Option, Some, refl, sym, ap, subst, ◌∙◌, arith, Result, Ok, Err}
+use Rattle.std.proofs.Common.{◌≡◌, ℕ, zero, suc, ◌<◌, List, [], ◌∷◌, ◌++◌, length, append_assoc, Option, refl, sym, ap, subst, ◌∙◌, arith, Result, Ok, Err}
 use Rattle.std.specs.List.{flat_map}
 use Rattle.std.specs.FinMap.{from_entries}
 use Rattle.hk_base.specs.Bytes.{Bytes}
@@ -14,7 +14,7 @@ use Rattle.hk_fix.specs.Pages.{Pages}
 use Rattle.hk_fix.specs.Report.{ending_at, report_of, upto}
 use Rattle.hk_fix.specs.Site as files
 use Rattle.hk_machine.specs.Machine.{plan_shape}
-use Rattle.hk_reuse.specs.Entries.{AreFormed, Entries, entries_in, no_entries}
+use Rattle.hk_reuse.specs.Entries.{AreFormed, Entries, no_entries}
 use Rattle.hk_rules.specs.Plan.{lookups}
 use Rattle.hk_rules.specs.PlanView.{PlanView}
 use Rattle.hk_sites.proofs.HeldIds.{plan-held}
@@ -27,7 +27,7 @@ use Rattle.hk_store.specs.Entry.{EntryView}
 use Rattle.hk_store.specs.Told.{Short}
 use Rattle.hk_store.specs.Traits.{sha_digests}
 use Rattle.hk_store.specs.declared.damage.StoreDamage.{StoreDamage}
-use Rattle.hk_app.specs.Taking.{IsReadOf, IsTakenOf, Taken, nothing, taken_of}
+use Rattle.hk_app.specs.Taking.{IsReadOf, IsTakenOf, Taken, taken_of}
 use Rattle.hk_honest.specs.Honest.{IsHonest, absent, left, damaged}
 
 none-formed : AreFormed no_entries

@@ -1,5 +1,5 @@
 -- Builds over honest stores, one and many.
-use Rattle.std.proofs.Common.{◌≡◌, Bool, true, false, List, Option, Some, None, refl, sym, ap, subst, ◌∙◌, ◌⊎◌, inl, inr}
+use Rattle.std.proofs.Common.{◌≡◌, Bool, List, Option, Some, sym, ap, subst, ◌∙◌, inl, inr}
 use Rattle.std.specs.Cmp.Lexicographic.{nat_list_cmp_total}
 use Rattle.std.specs.FinMap.{get, get-insert, insert}
 use Rattle.std.specs.Prelude.{cond}
@@ -16,7 +16,7 @@ use Rattle.hk_words.specs.Words.{command}
 use Rattle.hk_app.specs.declared.status.Status.{Status}
 use Rattle.hk_app.specs.declared.status.Status.TheVariants.{Ok as Done, Report}
 use Rattle.hk_app.specs.Promise.{Builds, EndsStopped, EndsWhole, IsDone, IsPlanOf, IsStopped, Reports, Says}
-use Rattle.hk_app.specs.Site.{Reading, absent, planned, reading, refused, unplanned}
+use Rattle.hk_app.specs.Site.{Reading, absent, planned, refused, unplanned}
 use Rattle.hk_app.specs.Standing.{store_path}
 use Rattle.hk_app.specs.Taking.{IsTakenOf, Taken, Takes}
 use Rattle.hk_app.specs.World.{Folders}
@@ -34,7 +34,7 @@ one-plan x y e = ap held e
     held (refused fault) = x
     held (unplanned fault) = x
 
-same-command : (words : List Bytes) (c : Command) (o : BuildOptions) → command words ≡ Some c → command words ≡ Some (Build o) → c ≡ Build o
+pub same-command : (words : List Bytes) (c : Command) (o : BuildOptions) → command words ≡ Some c → command words ≡ Some (Build o) → c ≡ Build o
 same-command words c o e f = some-is c (Build o) (sym e ∙ f)
   where
     some-is : (x y : Command) → Some x ≡ Some y → x ≡ y
@@ -86,7 +86,7 @@ run-report plan cache old new r honest =
 stored-at : (cache : Files) (bytes : Bytes) → get (insert cache store_path bytes) store_path ≡ Some bytes
 stored-at cache bytes = get-insert nat_list_cmp_total cache store_path bytes store_path ∙ ap (λ b. cond b (Some bytes) (get cache store_path)) (ties-self store_path)
 
-left-at : (cache after : Files) (bytes : Bytes) (o : Option Files) → o ≡ Some (insert cache store_path bytes) → o ≡ Some after → get after store_path ≡ Some bytes
+pub left-at : (cache after : Files) (bytes : Bytes) (o : Option Files) → o ≡ Some (insert cache store_path bytes) → o ≡ Some after → get after store_path ≡ Some bytes
 left-at cache after bytes o e f = ap (λ m. get m store_path) (some-is after (insert cache store_path bytes) (sym f ∙ e)) ∙ stored-at cache bytes
   where
     some-is : (x y : Files) → Some x ≡ Some y → x ≡ y
