@@ -96,7 +96,7 @@ bodies-flat f [] = refl
 bodies-flat f (n ∷ ns) = ap (λ l. bodies (f n) ++ l) (bodies-flat f ns) ∙ sym (map-append (λ (e : Bytes × Page). (e.0, e.1.body)) (f n) (flat_map f ns))
 
 -- the targets of pages in order ascend
-pub ascends-order : (es : List (Bytes × Page)) → ascends (map (λ (e : Bytes × Page). e.0) (in_order es)) ≡ true
+ascends-order : (es : List (Bytes × Page)) → ascends (map (λ (e : Bytes × Page). e.0) (in_order es)) ≡ true
 ascends-order es =
     ap ascends (sym (map-map (λ (e : Bytes × Bytes). e.0) (λ (e : Bytes × Page). (e.0, e.1.body)) (in_order es)))
     ∙ ap (λ l. ascends (paths_of l)) (bodies-order es) ∙ ascends-entries (from_entries (bodies es))
@@ -133,6 +133,9 @@ length-upto n = sym (ap length (map-same (upto n))) ∙ count-upto (λ i. i) n
     map-same : (ns : List ℕ) → map (λ i. i) ns ≡ ns
     map-same [] = refl
     map-same (m ∷ ms) = ap (λ l. m ∷ l) (map-same ms)
+
+pub ascends-pages : (plan : PlanView) (k : known.Pages) → ascends (map (λ (e : Bytes × Page). e.0) (pages_at plan k)) ≡ true
+ascends-pages plan k = ascends-order (flat_map (λ i. option_to_list (page_at plan k i)) (upto (length plan.items)))
 
 pub count-pages : (plan : PlanView) (k : known.Pages) → length (pages_at plan k) ≤ length plan.items
 count-pages plan k =
