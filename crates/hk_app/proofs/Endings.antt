@@ -192,7 +192,7 @@ pub task-ends : (words : List Bytes) (c : Command) (old new : Folders) (r : Resu
 task-ends words c old new (Ok e) asked h = record { always = h.always; holds = holds-of words c old new e.status e.text asked h.comes }
 task-ends words c old new (Err e) asked h = record { always = h.always; leaves = subst (λ o. Leaves o old new) (sym asked) h.leaves }
 
-told-self : (o : Option Files) → IfSome o (λ m. IsSome o)
+pub told-self : (o : Option Files) → IfSome o (λ m. IsSome o)
 told-self None = tt
 told-self (Some m) = refl
 

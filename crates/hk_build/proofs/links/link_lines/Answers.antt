@@ -1,4 +1,4 @@
-use Rattle.std.proofs.Common.{◌≡◌, ◌∙◌, ◌<◌, arith, ap, sym, subst, length, List, map, IsTrue}
+use Rattle.std.proofs.Common.{◌≡◌, ◌∙◌, ◌<◌, arith, ap, length, List, map}
 use Rattle.std.proofs.lemmas.List.{length-map}
 use Rattle.hk_base.specs.Bytes.{Bytes, ascends}
 use Rattle.hk_chain.specs.Kept.{at_place}
@@ -18,4 +18,4 @@ pub check_links-requires-clause-sorted : goal.check_links-requires-clause-sorted
 check_links-requires-clause-sorted c =
     let paths = ap ascends (c.deref.ensures.value ∙ c.in_ok-targets.ensures.targets) in
     let rising = ap (λ (es : List (Bytes × Page)). ascends (map (λ e. e.0) es)) c.in_ok-outs.ensures.pages ∙ ascends-pages c.args.plan.now (at_place c.args.results.now.pages) in
-    subst IsTrue (sym (paths ∙ rising)) tt
+    paths ∙ rising
