@@ -3,7 +3,7 @@ _hakyll_cli() {
     local word=${COMP_WORDS[COMP_CWORD]} before=${COMP_WORDS[COMP_CWORD - 1]} words=
     [ "$word" != = ] || word=
     if [ "$COMP_CWORD" -eq 1 ]; then
-        words='build rebuild check deps clean gen'
+        words='build rebuild check deps clean gen links'
     elif [ "$before" = --workers ] || [ "$before" = = ]; then
         words='1 2 4 8 16 32 64'
     else

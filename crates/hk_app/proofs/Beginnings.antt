@@ -10,7 +10,7 @@ use Rattle.hk_words.specs.declared.commands.Command.{Command}
 use Rattle.hk_words.specs.declared.commands.Command.TheVariants.{Build, Rebuild}
 use Rattle.hk_app.specs.declared.ended.Ended.{Ended}
 use Rattle.hk_app.specs.declared.status.Status.{Status}
-use Rattle.hk_app.specs.declared.status.Status.TheVariants.{Ok as Done, Report, Usage, BadRules, BadSite, ReadFault, WriteFault, StoreFault, OutFault, NoMemory}
+use Rattle.hk_app.specs.declared.status.Status.TheVariants.{Ok as Done, Report, Usage, BadRules, BadSite, ReadFault, WriteFault, StoreFault, OutFault, NoMemory, BadLinks}
 use Rattle.hk_app.specs.declared.taking.Taken.{Taken as TakenStore}
 use Rattle.hk_app.specs.Beginning.{IsStill, IsReady}
 use Rattle.hk_app.specs.Finishing.{Moves}
@@ -57,6 +57,7 @@ module _ (source source' site site' : Folder) (f : Option Files) (a b : ℕ) (le
   built-back ReadFault rest h = absurd h
   built-back OutFault rest h = absurd h
   built-back NoMemory rest h = absurd h
+  built-back BadLinks rest h = absurd h
 
   wants-back : WantsBuilt (folders source site (folder f b)) (folders source' site' new) plan t → WantsBuilt (folders source site (folder f a)) (folders source' site' new) plan t
   wants-back (before x y) = before x y

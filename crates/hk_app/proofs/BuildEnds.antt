@@ -16,7 +16,7 @@ use Rattle.hk_writer.specs.Written.{IsWritten}
 use Rattle.hk_writer.specs.declared.writer.Counts.{Counts}
 use Rattle.hk_app.specs.declared.ended.Ended.{Ended}
 use Rattle.hk_app.specs.declared.status.Status.{Status}
-use Rattle.hk_app.specs.declared.status.Status.TheVariants.{Ok as Done, Report, Usage, BadRules, BadSite, ReadFault, WriteFault, StoreFault, OutFault, NoMemory}
+use Rattle.hk_app.specs.declared.status.Status.TheVariants.{Ok as Done, Report, Usage, BadRules, BadSite, ReadFault, WriteFault, StoreFault, OutFault, NoMemory, BadLinks}
 use Rattle.hk_app.specs.Finishing.{IsFront, IsUnsaved, Saves, SavesAs, saved as was_saved, unsaved as was_not, SavesNot, same, torn}
 use Rattle.hk_app.specs.Promise.{AllEnd, SomeStop, AllButStore, whole, stopped, IsSaid, report_lines, saved, summary_of, torn_store, unsaved}
 use Rattle.hk_app.specs.Run.{EndsBuild, EndsBuilt, EndsTold, WantsBuilt, after_all, among, before, past_fault}
@@ -61,6 +61,7 @@ module _ (plan : PlanView) (t : Taken) (old new : Folders) where
   built-wants StoreFault text h = after_all h.cache (record { rest = h.ends.before; done = h.ends.done; store = torn_store h.rose h.cache })
   built-wants OutFault text h = absurd h
   built-wants NoMemory text h = absurd h
+  built-wants BadLinks text h = absurd h
 
   said-of : (trace : Bool) (front rest text : Bytes) → IsFront trace plan t front → text ≡ front ++ rest → IsSaid trace plan t rest text
   said-of trace front rest text f is =

@@ -9,7 +9,7 @@ use Rattle.hk_texts.specs.Printed.{removed_line, write_fault_line}
 use Rattle.hk_words.specs.declared.commands.Command.TheVariants.{Clean}
 use Rattle.hk_app.specs.declared.ended.Ended.{Ended}
 use Rattle.hk_app.specs.declared.status.Status.{Status}
-use Rattle.hk_app.specs.declared.status.Status.TheVariants.{Ok as Done, Report, Usage, BadRules, BadSite, ReadFault, WriteFault, StoreFault, OutFault, NoMemory}
+use Rattle.hk_app.specs.declared.status.Status.TheVariants.{Ok as Done, Report, Usage, BadRules, BadSite, ReadFault, WriteFault, StoreFault, OutFault, NoMemory, BadLinks}
 use Rattle.hk_app.specs.Cleaning.{ClearedAs, ClearsCache}
 use Rattle.hk_app.specs.Finishing.{Moves}
 use Rattle.hk_app.specs.Promise.{Always, Comes, StopsClean, clearing_site, clearing_cache}
@@ -43,6 +43,7 @@ module _ (source site site' cache cache' : Folder) (moves : Moves site site') wh
   cleared-as before count gone WriteFault text h = absurd h
   cleared-as before count gone OutFault text h = absurd h
   cleared-as before count gone NoMemory text h = absurd h
+  cleared-as before count gone BadLinks text h = absurd h
 
   -- the site is cleared, and then the cache is, or not
   pub cleaned : (before : ℕ) → IfSome site.files (λ m. before ≡ length (keys m)) → IsCleared site site' → Moves cache cache' → (r : Result Ended NoMemory-data) → ClearsCache before cache cache' r

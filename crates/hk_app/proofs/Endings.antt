@@ -11,11 +11,11 @@ use Rattle.hk_writer.specs.Writing.{HeldOrNone}
 use Rattle.hk_words.specs.Usage.{usage}
 use Rattle.hk_words.specs.declared.commands.BuildOptions.{BuildOptions}
 use Rattle.hk_words.specs.declared.commands.Command.{Command}
-use Rattle.hk_words.specs.declared.commands.Command.TheVariants.{Build, Rebuild, Check, Deps, Clean, Generate}
+use Rattle.hk_words.specs.declared.commands.Command.TheVariants.{Build, Rebuild, Check, Deps, Clean, Generate, Links}
 use Rattle.hk_words.specs.Words.{command}
 use Rattle.hk_app.specs.declared.ended.Ended.{Ended}
 use Rattle.hk_app.specs.declared.status.Status.{Status}
-use Rattle.hk_app.specs.declared.status.Status.TheVariants.{Ok as Done, Report, Usage, BadRules, BadSite, ReadFault, WriteFault, StoreFault, OutFault, NoMemory}
+use Rattle.hk_app.specs.declared.status.Status.TheVariants.{Ok as Done, Report, Usage, BadRules, BadSite, ReadFault, WriteFault, StoreFault, OutFault, NoMemory, BadLinks}
 use Rattle.hk_app.specs.Gathering.{RefusesFolder}
 use Rattle.hk_app.specs.Promise.{Always, Plans, Runs, IsPlanOf, reads_source, AllEnd, SomeStop, IsSaid, EndsWhole, EndsStopped, EndsUnwritten, EndsUnsaved, AllButStore, Says, Builds, Reports, FailsWriting, FailsSaving}
 use Rattle.hk_app.specs.Promise.{IsNamed, IsShown, Shows, IsStopped, IsWriteFault, IsStoreFault, IsBadRules, IsBadSite, IsUnplanned, Comes, Holds, IsPartlyBuilt, IsTornBuilt, IsPast, StoreLeft, saved, unsaved, torn_store, whole, stopped}
@@ -49,6 +49,7 @@ takes-map Check cache P Q f h = f nothing h
 takes-map Deps cache P Q f h = f nothing h
 takes-map Clean cache P Q f h = f nothing h
 takes-map (Generate o) cache P Q f h = f nothing h
+takes-map Links cache P Q f h = f nothing h
 
 takes-of : (c : Command) (cache : Folder) (P : Taken → Type 0) (t : Taken) → IsTakenBy c cache t → P t → Takes c cache P
 takes-of (Build o) cache P t is h = some-map _ _ (λ m at. (t, at, h)) cache.files is
@@ -57,6 +58,7 @@ takes-of Check cache P t is h = subst P is h
 takes-of Deps cache P t is h = subst P is h
 takes-of Clean cache P t is h = subst P is h
 takes-of (Generate o) cache P t is h = subst P is h
+takes-of Links cache P t is h = subst P is h
 
 pub runs-map : (c : Command) (old : Folders) (P Q : PlanView → Taken → Type 0) → ((plan : PlanView) (t : Taken) → P plan t → Q plan t) → Runs c old P → Runs c old Q
 runs-map c old P Q f = plans-map old (λ plan. Takes c old.cache (P plan)) (λ plan. Takes c old.cache (Q plan)) (λ plan. takes-map c old.cache (P plan) (Q plan) (f plan))
@@ -71,6 +73,7 @@ module _ (P : Reading → Type 0) (source source' site cache : Folder) (h : IfSo
   unplanned-of Deps reads = record { reads = reads; cause = h; site = refl; cache = refl }
   unplanned-of Clean reads = record { reads = reads; cause = h; site = refl; cache = refl }
   unplanned-of (Generate o) reads = absurd (cc reads)
+  unplanned-of Links reads = record { reads = reads; cause = h; site = refl; cache = refl }
 
 -- the source was refused, whatever the command that reads it
 pub refused-task : (c : Command) (source source' site cache : Folder) (status : Status) (text : Bytes) → reads_source c ≡ true → RefusesFolder source source' status text → Comes c (folders source site cache) (folders source' site cache) status text
@@ -84,6 +87,7 @@ refused-task c source source' site cache WriteFault text reads h = absurd h
 refused-task c source source' site cache StoreFault text reads h = absurd h
 refused-task c source source' site cache OutFault text reads h = absurd h
 refused-task c source source' site cache NoMemory text reads h = absurd h
+refused-task c source source' site cache BadLinks text reads h = absurd h
 
 module _ (c : Command) (trace : Bool) (old new : Folders) (plan : PlanView) (t : Taken) (read : IfSome old.source.files (λ m. IsPlanOf m plan)) (taken : IsTakenBy c old.cache t) where
   runs-of : (P : PlanView → Taken → Type 0) → P plan t → Runs c old P
@@ -122,6 +126,7 @@ module _ (o : BuildOptions) (old new : Folders) (plan : PlanView) (t : Taken) (r
   build-comes taken StoreFault rest text h s = inr (fails-saving (Build o) o.trace old new plan t read taken rest text h s)
   build-comes taken OutFault rest text h s = absurd h
   build-comes taken NoMemory rest text h s = absurd h
+  build-comes taken BadLinks rest text h s = absurd h
 
   rebuild-comes : IsTakenBy (Rebuild o) old.cache t → (status : Status) (rest text : Bytes) → EndsBuilt old new plan t status rest → IsSaid o.trace plan t rest text → Comes (Rebuild o) old new status text
   rebuild-comes taken Done rest text h s = builds (Rebuild o) o.trace old new plan t read taken rest text h s
@@ -134,6 +139,7 @@ module _ (o : BuildOptions) (old new : Folders) (plan : PlanView) (t : Taken) (r
   rebuild-comes taken StoreFault rest text h s = fails-saving (Rebuild o) o.trace old new plan t read taken rest text h s
   rebuild-comes taken OutFault rest text h s = absurd h
   rebuild-comes taken NoMemory rest text h s = absurd h
+  rebuild-comes taken BadLinks rest text h s = absurd h
 
   -- what the building of the plan that was read comes to
   pub build-task : IsTakenBy (Build o) old.cache t → (r : Result Ended NoMemory-data) → Always old new → EndsTold o.trace old new plan t r → EndsAs (Build o) old new r
@@ -160,6 +166,7 @@ module _ (shown : PlanView → Bytes) (source source' site cache : Folder) (plan
   check-comes StoreFault text h C done named = absurd h
   check-comes OutFault text h C done named = absurd h
   check-comes NoMemory text h C done named = absurd h
+  check-comes BadLinks text h C done named = absurd h
 
 -- a task by its name
 pub same-task : (c d : Command) (old new : Folders) (r : Result Ended NoMemory-data) → c ≡ d → EndsAs d old new r → EndsAs c old new r
@@ -178,13 +185,14 @@ holds-of words c old new WriteFault text asked h = record { task = c; asked = as
 holds-of words c old new StoreFault text asked h = record { task = c; asked = asked; comes = h }
 holds-of words c old new OutFault text asked h = absurd h
 holds-of words c old new NoMemory text asked h = absurd h
+holds-of words c old new BadLinks text asked h = record { task = c; asked = asked; comes = h }
 
 -- the words are a command
 pub task-ends : (words : List Bytes) (c : Command) (old new : Folders) (r : Result Ended NoMemory-data) → command words ≡ Some c → EndsAs c old new r → EndsWith words old new r
 task-ends words c old new (Ok e) asked h = record { always = h.always; holds = holds-of words c old new e.status e.text asked h.comes }
 task-ends words c old new (Err e) asked h = record { always = h.always; leaves = subst (λ o. Leaves o old new) (sym asked) h.leaves }
 
-told-self : (o : Option Files) → IfSome o (λ m. IsSome o)
+pub told-self : (o : Option Files) → IfSome o (λ m. IsSome o)
 told-self None = tt
 told-self (Some m) = refl
 
@@ -206,6 +214,7 @@ leaves-still Check old new reads site cache = record { site = site; cache = cach
 leaves-still Deps old new reads site cache = record { site = site; cache = cache }
 leaves-still Clean old new reads site cache = absurd (cc reads)
 leaves-still (Generate o) old new reads site cache = absurd (cc reads)
+leaves-still Links old new reads site cache = record { site = site; cache = cache }
 
 lost-self : (o : Option Files) → IfSome o (λ m. IfSome o (λ n. (path : Bytes) → HeldOrNone path m n))
 lost-self None = tt
@@ -220,6 +229,7 @@ leaves-all (Some Check) old = record { site = refl; cache = refl }
 leaves-all (Some Deps) old = record { site = refl; cache = refl }
 leaves-all (Some Clean) old = clearing_site (lost-self old.site.files) refl
 leaves-all (Some (Generate o)) old = refl
+leaves-all (Some Links) old = record { site = refl; cache = refl }
 
 pub unread-ends : (words : List Bytes) (old : Folders) (r : Result Ended NoMemory-data) (e : NoMemory-data) → r ≡ Err e → EndsWith words old old r
 unread-ends words old r e is = subst (EndsWith words old old) (sym is) (record { always = always-same old; leaves = leaves-all (command words) old })

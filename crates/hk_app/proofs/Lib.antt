@@ -6,6 +6,7 @@ pub mod Crews
 pub mod Endings
 pub mod FolderReads
 pub mod Generatings
+pub mod Linkings
 pub mod Promising
 pub mod Removing
 pub mod SourceReads

@@ -3,15 +3,16 @@ use Rattle.std.proofs.Common.{◌≡◌, ℕ, Bool, true, false, List, [], Optio
 use Rattle.std.specs.FinMap.{get}
 use Rattle.hk_base.specs.Bytes.{Bytes, Files}
 use Rattle.hk_build.specs.Build.{is_empty, report}
+use Rattle.hk_build.specs.Linked.{all_lead}
 use Rattle.hk_outside.specs.Causes.{Rose}
 use Rattle.hk_rules.specs.PlanView.{PlanView}
 use Rattle.hk_words.specs.declared.commands.Command.{Command}
-use Rattle.hk_words.specs.declared.commands.Command.TheVariants.{Build, Rebuild, Check, Deps, Clean, Generate}
+use Rattle.hk_words.specs.declared.commands.Command.TheVariants.{Build, Rebuild, Check, Deps, Clean, Generate, Links}
 use Rattle.hk_words.specs.Words.{command}
 use Rattle.hk_app.specs.declared.status.Status.{Status}
-use Rattle.hk_app.specs.declared.status.Status.TheVariants.{Ok as Done, Report, Usage, BadRules, BadSite, ReadFault, WriteFault, StoreFault, OutFault, NoMemory}
+use Rattle.hk_app.specs.declared.status.Status.TheVariants.{Ok as Done, Report, Usage, BadRules, BadSite, ReadFault, WriteFault, StoreFault, OutFault, NoMemory, BadLinks}
 use Rattle.hk_app.specs.Promise.{Plans, Runs, IsPlanOf, reads_source, AllEnd, SomeStop, AllButStore, whole, stopped, EndsWhole, EndsStopped, EndsUnwritten, EndsUnsaved, Says, Builds, Reports, FailsWriting, FailsSaving, FailsReading}
-use Rattle.hk_app.specs.Promise.{IsNamed, IsStopped, IsWriteFault, IsStoreFault, IsBadRules, IsBadSite, IsUnplanned, Comes, Holds, IsTornBuilt, IsPast, StoreLeft, saved, unsaved, torn_store}
+use Rattle.hk_app.specs.Promise.{HasLinks, IsBadLinks, page_list, IsNamed, IsStopped, IsWriteFault, IsStoreFault, IsBadRules, IsBadSite, IsUnplanned, Comes, Holds, IsTornBuilt, IsPast, StoreLeft, saved, unsaved, torn_store}
 use Rattle.hk_app.specs.Promise.{StopsBuild, unbegun, torn_site, past, clearing_site, clearing_cache, Leaves, IsSound, HasSoundPlan, IsExcused, failed, unsaid, wanting, of_source, of_site, of_cache, EndsWell, Promise}
 use Rattle.hk_app.specs.Run.{Ends, SaysAs}
 use Rattle.hk_app.specs.Site.{Reading, absent, refused, unplanned, planned, reading}
@@ -66,6 +67,19 @@ task-leaves (Generate o) old new BadRules text h = h.folders
 task-leaves (Generate o) old new BadSite text h = h.folders
 task-leaves (Generate o) old new WriteFault text h = absurd h
 task-leaves (Generate o) old new StoreFault text h = absurd h
+task-leaves Links old new Done text h = record { site = h.site; cache = h.cache }
+task-leaves Links old new Report text h = record { site = h.site; cache = h.cache }
+task-leaves Links old new BadRules text h = leaves-still Links old new h.reads h.site h.cache
+task-leaves Links old new BadSite text h = leaves-still Links old new h.reads h.site h.cache
+task-leaves Links old new WriteFault text h = absurd h
+task-leaves Links old new StoreFault text h = absurd h
+task-leaves Links old new BadLinks text h = record { site = h.site; cache = h.cache }
+task-leaves (Build o) old new BadLinks text h = absurd h
+task-leaves (Rebuild o) old new BadLinks text h = absurd h
+task-leaves Check old new BadLinks text h = absurd h
+task-leaves Deps old new BadLinks text h = absurd h
+task-leaves Clean old new BadLinks text h = absurd h
+task-leaves (Generate o) old new BadLinks text h = absurd h
 task-leaves (Build o) old new BadRules text h = leaves-still (Build o) old new h.reads h.site h.cache
 task-leaves (Build o) old new BadSite text h = leaves-still (Build o) old new h.reads h.site h.cache
 task-leaves (Rebuild o) old new BadRules text h = leaves-still (Rebuild o) old new h.reads h.site h.cache
@@ -92,6 +106,7 @@ leaves words old new WriteFault text h = subst (λ o. Leaves o old new) (sym h.a
 leaves words old new StoreFault text h = subst (λ o. Leaves o old new) (sym h.asked) (task-leaves h.task old new StoreFault text h.comes)
 leaves words old new OutFault text h = absurd h.comes
 leaves words old new NoMemory text h = absurd h.comes
+leaves words old new BadLinks text h = subst (λ o. Leaves o old new) (sym h.asked) (task-leaves h.task old new BadLinks text h.comes)
 
 -- ---- completeness follows from the causes
 
@@ -102,6 +117,7 @@ unwritten-cause Check old new text h = absurd h
 unwritten-cause Deps old new text h = absurd h
 unwritten-cause Clean old new text h = h.cause
 unwritten-cause (Generate o) old new text h = absurd h
+unwritten-cause Links old new text h = absurd h
 
 store-cause : (c : Command) (old new : Folders) (text : Bytes) → IsStoreFault c old new text → Rose old.cache.faults new.cache.faults
 store-cause (Build o) old new text (inl h) = h.cause
@@ -111,6 +127,7 @@ store-cause Check old new text h = absurd h
 store-cause Deps old new text h = absurd h
 store-cause Clean old new text h = h.cause
 store-cause (Generate o) old new text h = absurd h
+store-cause Links old new text h = absurd h
 
 one-plan : (x y : PlanView) → planned x ≡ planned y → x ≡ y
 one-plan x y e = ap held e
@@ -147,6 +164,24 @@ not-stopped Clean old new text s h = absurd h
 not-stopped (Generate o) old new text s h =
     let same : h.run.0 ≡ s.0 = one-plan h.run.0 s.0 (sym h.run.1 ∙ s.1) in
     not-both h.run.0 nothing (subst (λ plan. AllEnd plan nothing) (sym same) s.2) h.run.2.some
+not-stopped Links old new text s h =
+    let p = at-some (λ m. (plan : PlanView) × IsPlanOf m plan × IsNamed text plan) s.told h.run in
+    let same : p.0 ≡ s.plan = one-plan p.0 s.plan (sym p.1.read ∙ s.planned) in
+    not-both p.0 nothing (subst (λ plan. AllEnd plan nothing) (sym same) s.all) p.2.some
+
+-- where each link leads somewhere, none is named
+not-bad : (c : Command) (old new : Folders) (text : Bytes) → IsSound c old → IsBadLinks c old new text → ⊥
+not-bad (Build o) old new text s h = absurd h
+not-bad (Rebuild o) old new text s h = absurd h
+not-bad Check old new text s h = absurd h
+not-bad Deps old new text s h = absurd h
+not-bad Clean old new text s h = absurd h
+not-bad (Generate o) old new text s h = absurd h
+not-bad Links old new text s h =
+    let p = at-some (λ m. (plan : PlanView) × IsPlanOf m plan × HasLinks false text plan) s.told h.run in
+    let same : p.0 ≡ s.plan = one-plan p.0 s.plan (sym p.1.read ∙ s.planned) in
+    let twice : true ≡ false = sym s.links ∙ ap (λ plan. all_lead (page_list plan)) (sym same) ∙ p.2.links in
+    cc
 
 -- what is sound is not refused
 not-refused : (c : Command) (P : Reading → Type 0) (old new : Folders) → ((plan : PlanView) → P (planned plan) → ⊥) → IsSound c old → IsUnplanned c P old new → ⊥
@@ -156,6 +191,7 @@ not-refused Check P old new never s h = never s.plan (subst P s.planned (at-some
 not-refused Deps P old new never s h = never s.plan (subst P s.planned (at-some (λ m. P (reading m)) s.told h.cause))
 not-refused Clean P old new never s h = absurd (cc h.reads)
 not-refused (Generate o) P old new never s h = never s.0 (subst P s.1 h.cause)
+not-refused Links P old new never s h = never s.plan (subst P s.planned (at-some (λ m. P (reading m)) s.told h.cause))
 
 same-command : (words : List Bytes) (c d : Command) → command words ≡ Some c → command words ≡ Some d → c ≡ d
 same-command words c d e f = some-is c d (sym e ∙ f)
@@ -176,6 +212,7 @@ ends-well words old new out out' WriteFault text h c asked s = inr (failed (of_s
 ends-well words old new out out' StoreFault text h c asked s = inr (failed (of_cache (store-cause h.task old new text h.comes)))
 ends-well words old new out out' OutFault text h c asked s = absurd h.comes
 ends-well words old new out out' NoMemory text h c asked s = absurd h.comes
+ends-well words old new out out' BadLinks text h c asked s = absurd (not-bad h.task old new text (subst (λ d. IsSound d old) (same-command words c h.task asked h.asked) s) h.comes)
 
 -- ---- the promise
 
@@ -204,6 +241,9 @@ promise words old new out out' status text WriteFault h s later =
 promise words old new out out' status text StoreFault h s later =
     let holds : Holds words old new StoreFault text = subst (λ x. Holds words old new x text) (sym s.0) h.holds in
     record { always = h.always; later = later; said = record { text = text; holds = holds; written = s.1 }; complete = ends-well words old new out out' StoreFault text holds }
+promise words old new out out' status text BadLinks h s later =
+    let holds : Holds words old new BadLinks text = subst (λ x. Holds words old new x text) (sym s.0) h.holds in
+    record { always = h.always; later = later; said = record { text = text; holds = holds; written = s.1 }; complete = ends-well words old new out out' BadLinks text holds }
 promise words old new out out' status text OutFault h s later =
     record { always = h.always; later = later; said = record { status = status; text = text; holds = h.holds; cut = s }; complete = λ c asked sound. inr (unsaid s.cause) }
 promise words old new out out' status text NoMemory h s later =

@@ -13,7 +13,7 @@ use Rattle.hk_build.specs.Planned.{IsPlanned}
 use Rattle.hk_rules.specs.PlanView.{PlanView}
 use Rattle.hk_rules.specs.Resource.{is_ignored}
 use Rattle.hk_app.specs.declared.status.Status.{Status}
-use Rattle.hk_app.specs.declared.status.Status.TheVariants.{Ok as Done, Report, Usage, BadRules, BadSite, ReadFault, WriteFault, StoreFault, OutFault, NoMemory}
+use Rattle.hk_app.specs.declared.status.Status.TheVariants.{Ok as Done, Report, Usage, BadRules, BadSite, ReadFault, WriteFault, StoreFault, OutFault, NoMemory, BadLinks}
 use Rattle.hk_app.specs.declared.reading.Gathered.{Gathered}
 use Rattle.hk_app.specs.declared.reading.Gathered.TheVariants.{Refused, Planned}
 use Rattle.hk_app.specs.Gathering.{RefusesReading, ReadsAs, RefusesFolder, Gathers}
@@ -64,6 +64,7 @@ refuses-folder old new files WriteFault text is h = absurd h
 refuses-folder old new files StoreFault text is h = absurd h
 refuses-folder old new files OutFault text is h = absurd h
 refuses-folder old new files NoMemory text is h = absurd h
+refuses-folder old new files BadLinks text is h = absurd h
 
 planned-of : (old : Option Files) (plan : PlanView) → IsPlanned plan → IfSome old (λ m. reading m ≡ planned plan) → IfSome old (λ m. IsPlanOf m plan)
 planned-of None plan made h = tt

@@ -5,6 +5,7 @@ pub mod Finishing
 pub mod Gathering
 pub mod Generated
 pub mod Generating
+pub mod Linking
 pub mod Promise
 pub mod Reading
 pub mod Run

@@ -2,8 +2,11 @@
 use Rattle.std.specs.Prelude.{◌≡◌, ◌⊎◌, ℕ, ◌+◌, ◌≤◌, Bool, true, false, List, [], ◌++◌, Option, Some, None, IfSome, length, take}
 use Rattle.std.specs.FinMap.{keys}
 use Rattle.hk_base.specs.Bytes.{Bytes, Files}
-use Rattle.hk_build.specs.Build.{compiled, endings, image, is_empty, report, reused, run_of, seeds, shown, site_of}
+use Rattle.hk_build.specs.Build.{compiled, endings, image, is_empty, pages, report, reused, run_of, seeds, shown, site_of}
+use Rattle.hk_build.specs.Linked.{all_lead, link_lines}
+use Rattle.hk_build.specs.Pages.{pages_at}
 use Rattle.hk_build.specs.Planned.{IsPlanned}
+use Rattle.hk_chain.specs.declared.page.Page.{Page}
 use Rattle.hk_fix.specs.declared.event.Event.{Event}
 use Rattle.hk_fix.specs.Fix.{IsComplete}
 use Rattle.hk_gen.specs.Site.{site}
@@ -22,10 +25,10 @@ use Rattle.hk_words.specs.Usage.{usage}
 use Rattle.hk_words.specs.Words.{command}
 use Rattle.hk_words.specs.declared.commands.Command.{Command}
 use Rattle.hk_words.specs.declared.commands.GenerateOptions.{GenerateOptions}
-use Rattle.hk_words.specs.declared.commands.Command.TheVariants.{Build, Rebuild, Check, Deps, Clean, Generate}
+use Rattle.hk_words.specs.declared.commands.Command.TheVariants.{Build, Rebuild, Check, Deps, Clean, Generate, Links}
 use Rattle.hk_app.specs.declared.status.Status.{Status}
 use Rattle.hk_app.specs.declared.status.Status.TheVariants.{Ok as Done, Report, Usage, BadRules, BadSite, ReadFault, WriteFault}
-use Rattle.hk_app.specs.declared.status.Status.TheVariants.{StoreFault, OutFault, NoMemory}
+use Rattle.hk_app.specs.declared.status.Status.TheVariants.{StoreFault, OutFault, NoMemory, BadLinks}
 use Rattle.hk_app.specs.Generated.{site_line}
 use Rattle.hk_app.specs.Site.{Reading, absent, refused, unplanned, planned, files_reading, reading}
 use Rattle.hk_app.specs.Standing.{Same, Told, SameButStore, LostSome, HoldsOnly, IsCleared, IsSaved, IsPartly, IsTorn, written, removed}
@@ -181,6 +184,21 @@ pub record Generates (o : GenerateOptions) (P : PlanView → Type 0) (old new : 
   pub folders : Untouched old new
   pub run : PlansGenerated o P
 
+-- the pages of the site, from nothing that is kept, in the order of their targets
+abbrev pub page_list : PlanView → List (Bytes × Page)
+page_list plan = pages_at plan (pages plan no_entries)
+
+-- all items are done, each link leads somewhere or not, and the text says which links don't and how many there are
+pub record HasLinks (lead : Bool) (said : Bytes) (plan : PlanView) : Type 0 where
+  pub all : AllEnd plan nothing
+  pub links : all_lead (page_list plan) ≡ lead
+  pub text : said ≡ link_lines (page_list plan)
+
+pub record TestsLinks (lead : Bool) (old new : Folders) (said : Bytes) : Type 0 where
+  pub site : Same old.site new.site
+  pub cache : Same old.cache new.cache
+  pub run : Plans old (HasLinks lead said)
+
 abbrev pub IsDone : Command → Folders → Folders → Bytes → Type 0
 IsDone (Build o) = Builds (Build o) o.trace
 IsDone (Rebuild o) = Builds (Rebuild o) o.trace
@@ -188,6 +206,7 @@ IsDone Check = Shows count_line
 IsDone Deps = Shows deps_lines
 IsDone Clean = Cleans
 IsDone (Generate o) = λ old new said. Generates o (IsShown site_line said) old new
+IsDone Links = TestsLinks true
 
 -- ---- 1: some item failed or waits
 
@@ -208,6 +227,7 @@ IsStopped Check old new said = Names old new said
 IsStopped Deps old new said = Names old new said
 IsStopped Clean old new said = ⊥
 IsStopped (Generate o) old new said = Generates o (IsNamed said) old new
+IsStopped Links old new said = Names old new said
 
 -- ---- 3, 4 and 5: the source has no plan, or can't be read
 
@@ -268,6 +288,7 @@ IsWriteFault Check old new said = ⊥
 IsWriteFault Deps old new said = ⊥
 IsWriteFault Clean old new said = FailsCleaning old new said
 IsWriteFault (Generate o) old new said = ⊥
+IsWriteFault Links old new said = ⊥
 
 -- ---- 7: the store can't be read or written, or the cache not be removed
 
@@ -296,6 +317,13 @@ IsStoreFault Check old new said = ⊥
 IsStoreFault Deps old new said = ⊥
 IsStoreFault Clean old new said = FailsRemoving old new said
 IsStoreFault (Generate o) old new said = ⊥
+IsStoreFault Links old new said = ⊥
+
+-- ---- 10: a link leads nowhere
+
+abbrev pub IsBadLinks : Command → Folders → Folders → Bytes → Type 0
+IsBadLinks Links old new said = TestsLinks false old new said
+IsBadLinks c old new said = ⊥
 
 -- ---- what holds of a run that came to a status and has this text to write
 
@@ -311,6 +339,7 @@ Comes c old new WriteFault said = IsWriteFault c old new said
 Comes c old new StoreFault said = IsStoreFault c old new said
 Comes c old new OutFault said = ⊥
 Comes c old new NoMemory said = ⊥
+Comes c old new BadLinks said = IsBadLinks c old new said
 
 -- the words are a command, and this came to a status
 pub record AtCommand (words : List Bytes) (old new : Folders) (status : Status) (said : Bytes) : Type 0 where
@@ -375,6 +404,7 @@ Leaves (Some Check) old new = StopsReader old new
 Leaves (Some Deps) old new = StopsReader old new
 Leaves (Some Clean) old new = StopsClean old new
 Leaves (Some (Generate o)) old new = Untouched old new
+Leaves (Some Links) old new = StopsReader old new
 
 -- ---- what is written
 
@@ -418,9 +448,19 @@ pub record HasSoundPlan (c : Command) (old : Folders) : Type 0 where
   pub planned : reading files ≡ planned plan
   pub all : TakesAny c old.cache (AllEnd plan)
 
+-- the source has a plan, all its items are done, and each link of their pages leads somewhere
+pub record HasLeadingPlan (old : Folders) : Type 0 where
+  pub files : Files
+  pub told : old.source.files ≡ Some files
+  pub plan : PlanView
+  pub planned : reading files ≡ planned plan
+  pub all : AllEnd plan nothing
+  pub links : all_lead (page_list plan) ≡ true
+
 abbrev pub IsSound : Command → Folders → Type 0
 IsSound Clean old = Unit {0}
 IsSound (Generate o) old = PlansGenerated o (λ plan. AllEnd plan nothing)
+IsSound Links old = HasLeadingPlan old
 IsSound c old = HasSoundPlan c old
 
 pub data HasFault (old new : Folders) : Type 0 where

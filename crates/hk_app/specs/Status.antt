@@ -1,7 +1,7 @@
 -- The exit code of each status.
 use Rattle.std.specs.Prelude.{ℕ}
 use Rattle.hk_app.specs.declared.status.Status.{Status}
-use Rattle.hk_app.specs.declared.status.Status.TheVariants.{Ok, Report, Usage, BadRules, BadSite, ReadFault, WriteFault, StoreFault, OutFault, NoMemory}
+use Rattle.hk_app.specs.declared.status.Status.TheVariants.{Ok, Report, Usage, BadRules, BadSite, ReadFault, WriteFault, StoreFault, OutFault, NoMemory, BadLinks}
 
 abbrev pub code_of : Status → ℕ
 code_of Ok = 0
@@ -14,3 +14,4 @@ code_of WriteFault = 6
 code_of StoreFault = 7
 code_of OutFault = 8
 code_of NoMemory = 9
+code_of BadLinks = 10

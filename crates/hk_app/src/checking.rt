@@ -52,7 +52,7 @@ pub enum Compiled {
 }
 
 /// Compiles a plan from nothing that is kept.
-fn compile(alloc: Global, plan: &Shared<Plan>) -> Result<Compiled, NoMemory>
+pub fn compile(alloc: Global, plan: &Shared<Plan>) -> Result<Compiled, NoMemory>
     requires { IsPlanned plan.now }
     ensures { IfOk result (CompilesTo plan.now) }
 {

@@ -8,6 +8,7 @@ mod ended;
 mod finishing;
 mod folder;
 mod generating;
+mod linking;
 mod pool;
 mod reading;
 mod run;

@@ -16,6 +16,7 @@ use crate::cleaning::clean;
 use crate::ended::Ended;
 use crate::finishing::finish;
 use crate::generating::generate;
+use crate::linking::links;
 use crate::taking::Taken;
 use hk_base::{NoMemory, Shared};
 use hk_build::build_one;
@@ -36,10 +37,13 @@ use std::alloc::Global;
 ///   each item asked for; or the report.
 /// - `clean` removes every file of the site, and then every file of the cache.
 /// - `gen` builds the site that it is given by two numbers, in memory.
+/// - `links` runs the compilers as `check` does and tests the links of the pages that they make; it writes nothing but its
+///   text: the links that lead nowhere and how many there are, or the report.
 ///
 /// Statuses, in their order: `Usage` exactly where the words are no command; `ReadFault` only where the source's count of
 /// faults rose; `BadRules` exactly where `site.toml` is absent or refused; `BadSite` exactly where its rules make no plan;
 /// `StoreFault` while reading only where the cache's count rose; `Report` exactly where an item of the plan failed or waits;
+/// `BadLinks` exactly where `links` finds a link that leads nowhere inside the site;
 /// `WriteFault` only where the site's count rose; `StoreFault` while saving or removing only where the cache's count rose;
 /// `OutFault` only where the sink's count rose; `NoMemory` for want of memory, and then nothing was written to `out`.
 ///
@@ -103,6 +107,7 @@ fn perform<S: Tree, O: Tree, C: Tree>(
         Command::Deps => deps(alloc, source),
         Command::Clean => clean(alloc, site, cache),
         Command::Generate(options) => generate(alloc, options),
+        Command::Links => links(alloc, source),
     }
 }
 

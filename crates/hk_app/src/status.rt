@@ -25,6 +25,8 @@ pub enum Status {
     OutFault,
     /// Want of memory.
     NoMemory,
+    /// A link of the site leads nowhere inside it.
+    BadLinks,
 }
 
 impl Status {
@@ -43,6 +45,7 @@ impl Status {
             Status::StoreFault => 7,
             Status::OutFault => 8,
             Status::NoMemory => 9,
+            Status::BadLinks => 10,
         }
     }
 }

@@ -1,8 +1,10 @@
 -- The pages of a build at the targets of their items.
-use Rattle.std.specs.Prelude.{ℕ, List, Option, Some, None, length, map, option_to_list}
+use Rattle.std.specs.Prelude.{ℕ, List, [], ◌∷◌, Option, Some, None, length, map, option_map, option_to_list}
+use Rattle.std.specs.Ordering.{nat_cmp}
+use Rattle.std.specs.Cmp.Lexicographic.{slice_cmp}
 use Rattle.std.specs.List.{flat_map}
-use Rattle.std.specs.FinMap.{from_entries}
-use Rattle.hk_base.specs.Bytes.{Bytes, Files}
+use Rattle.std.specs.FinMap.Entries.{put}
+use Rattle.hk_base.specs.Bytes.{Bytes}
 use Rattle.hk_chain.specs.declared.page.Page.{Page}
 use Rattle.hk_chain.specs.Layout.{final_of}
 use Rattle.hk_fix.specs.Pages as known
@@ -10,25 +12,35 @@ use Rattle.hk_fix.specs.Report.{upto}
 use Rattle.hk_machine.specs.Machine.{plan_shape}
 use Rattle.hk_rules.specs.Plan.{lookups}
 use Rattle.hk_rules.specs.PlanView.{PlanView}
+use Rattle.hk_writer.specs.declared.page_out.PageOut.{PageOut}
 
 -- the bodies of some pages, each with its target
 abbrev pub bodies : List (Bytes × Page) → List (Bytes × Bytes)
 bodies es = map (λ e. (e.0, e.1.body)) es
 
--- the map from the targets to the bodies
-abbrev pub map_of : List (Bytes × Page) → Files
-map_of es = from_entries (bodies es)
+-- a page with its target
+abbrev pub placed_out : PageOut → Bytes × Page
+placed_out out = (out.target, out.page)
 
--- a target with the body of a page, where both are there
-abbrev pub placed : Option Bytes → Option Page → Option (Bytes × Bytes)
+-- one page more, in the order of the targets
+abbrev pub with_page : Option (Bytes × Page) → List (Bytes × Page) → List (Bytes × Page)
+with_page None es = es
+with_page (Some e) es = put (slice_cmp nat_cmp) e.0 e.1 es
+
+-- pages in the order of their targets
+abbrev pub in_order : List (Bytes × Page) → List (Bytes × Page)
+in_order [] = []
+in_order (e ∷ es) = put (slice_cmp nat_cmp) e.0 e.1 (in_order es)
+
+-- a target with a page, where both are there
+abbrev pub placed : Option Bytes → Option Page → Option (Bytes × Page)
 placed None page = None
-placed (Some target) None = None
-placed (Some target) (Some page) = Some (target, page.body)
+placed (Some target) page = option_map (λ p. (target, p)) page
 
--- the target of an item with the body of its finished page
-abbrev pub page_at : PlanView → known.Pages → ℕ → Option (Bytes × Bytes)
+-- the target of an item with its finished page
+abbrev pub page_at : PlanView → known.Pages → ℕ → Option (Bytes × Page)
 page_at plan pages item = placed ((lookups plan).target_of item) (pages (final_of (plan_shape plan) item))
 
--- the files of all items that have a target and a finished page
-abbrev pub files_at : PlanView → known.Pages → Files
-files_at plan pages = from_entries (flat_map (λ item. option_to_list (page_at plan pages item)) (upto (length plan.items)))
+-- the pages of all items that have a target and a finished page
+abbrev pub pages_at : PlanView → known.Pages → List (Bytes × Page)
+pages_at plan pages = in_order (flat_map (λ item. option_to_list (page_at plan pages item)) (upto (length plan.items)))

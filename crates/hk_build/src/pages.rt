@@ -1,10 +1,9 @@
 // The pages of a build, as the site holds them.
-ghost use Rattle.std.specs.Prelude.{◌≡◌, ◌<◌, true, IfOk, OnOk, length, option_map, option_to_list};
+ghost use Rattle.std.specs.Prelude.{◌≡◌, ◌<◌, true, IfOk, OnOk, length, map, option_map};
 ghost use Rattle.std.specs.FinMap.{entries};
 ghost use Rattle.hk_chain.specs.Kept.{at_place};
-ghost use Rattle.hk_outside.specs.Held.{set_all};
 ghost use Rattle.hk_reuse.specs.Entries.{Entries};
-ghost use Rattle.hk_writer.specs.Pages.{page_of, pages_of};
+ghost use Rattle.hk_writer.specs.Pages.{pages_of};
 ghost use Rattle.hk_build.specs.Build as build;
 ghost use Rattle.hk_build.specs.Built.{AreResults};
 ghost use Rattle.hk_build.specs.Pages as spec;
@@ -17,10 +16,11 @@ use hk_writer::PageOut;
 use std::alloc::Global;
 use std::collections::BTreeMap;
 
-/// The pages of a build whose items are all done, of those that have a target, in the order of their targets. `NoMemory`
-/// only for want of memory. `n log n` comparisons of targets; bodies are shared.
+/// The finished pages of the items that have a target, in the order of the targets; where all items are done, these are the
+/// site. `NoMemory` only for want of memory. `n log n` comparisons of targets; bodies are shared.
 pub fn site_pages(alloc: Global, plan: &Plan, results: &Results) -> Result<Vec<PageOut>, NoMemory>
-    ensures { IfOk result (λ v. (over : Entries) → AreResults plan.now over results.now → build.is_empty (build.report plan.now over) ≡ true
+    ensures pages { IfOk result (λ v. map spec.placed_out v.items ≡ spec.pages_at plan.now (at_place results.now.pages)) }
+    ensures site { IfOk result (λ v. (over : Entries) → AreResults plan.now over results.now → build.is_empty (build.report plan.now over) ≡ true
         → pages_of v.items ≡ entries (build.site_of plan.now over)) }
 {
     let pages = pages_by_target(alloc, plan, known_pages(results))?;
@@ -34,7 +34,7 @@ fn known_pages(results: &Results) -> &[Option<PageRef>]
 }
 
 fn in_order(alloc: Global, pages: BTreeMap<Text, PageRef>) -> Result<Vec<PageOut>, NoMemory>
-    ensures { IfOk result (λ v. pages_of v.items ≡ entries (spec.map_of pages.entries)) }
+    ensures { IfOk result (λ v. map spec.placed_out v.items ≡ pages.entries) }
 {
     let mut ordered = Vec::with_capacity(alloc, pages.len())?;
     for (target, page) in pages {
@@ -48,7 +48,7 @@ fn pages_by_target(
     plan: &Plan,
     known: &[Option<PageRef>],
 ) -> Result<BTreeMap<Text, PageRef>, NoMemory>
-    ensures { IfOk result (λ m. spec.map_of m.entries ≡ spec.files_at plan.now (at_place known.now)) }
+    ensures { IfOk result (λ m. m.entries ≡ spec.pages_at plan.now (at_place known.now)) }
 {
     let mut pages = BTreeMap::new(alloc);
     for item in (0..plan.count()).rev() {
@@ -59,7 +59,7 @@ fn pages_by_target(
 }
 
 fn put(pages: &mut BTreeMap<Text, PageRef>, page: Option<PageOut>) -> Result<(), NoMemory>
-    ensures { OnOk result (spec.map_of pages.new.entries ≡ set_all (option_to_list (option_map page_of page)) (spec.map_of pages.old.entries)) }
+    ensures { OnOk result (pages.new.entries ≡ spec.with_page (option_map spec.placed_out page) pages.old.entries) }
 {
     if let Some(page) = page {
         pages.insert(page.target, page.page)?;
@@ -75,7 +75,7 @@ fn page(
     item: ItemNo,
 ) -> Result<Option<PageOut>, NoMemory>
     requires { item < length plan.now.items }
-    ensures { IfOk result (λ page. option_map page_of page ≡ spec.page_at plan.now (at_place known.now) item) }
+    ensures { IfOk result (λ page. option_map spec.placed_out page ≡ spec.page_at plan.now (at_place known.now) item) }
 {
     let Some(target) = plan.target_of(item) else {
         return Ok(None);

@@ -10,12 +10,12 @@ use Rattle.hk_reuse.specs.Entries.{no_entries}
 use Rattle.hk_rules.specs.PlanView.{PlanView}
 use Rattle.hk_words.specs.declared.commands.BuildOptions.{BuildOptions}
 use Rattle.hk_words.specs.declared.commands.Command.{Command}
-use Rattle.hk_words.specs.declared.commands.Command.TheVariants.{Build, Rebuild, Check, Deps, Clean, Generate}
+use Rattle.hk_words.specs.declared.commands.Command.TheVariants.{Build, Rebuild, Check, Deps, Clean, Generate, Links}
 use Rattle.hk_words.specs.Words.{command}
 use Rattle.hk_writer.specs.Writing.{HeldOrNone}
 use Rattle.hk_app.specs.declared.status.Status.{Status}
-use Rattle.hk_app.specs.declared.status.Status.TheVariants.{Ok as Done, Report, Usage, BadRules, BadSite, ReadFault, WriteFault, StoreFault, OutFault, NoMemory}
-use Rattle.hk_app.specs.Promise.{IsBadRules, IsBadSite, IsPast, IsPlanOf, IsRefused, IsStoreFault, IsUnplanned, IsWriteFault, Leaves, Promise, Runs, StoreLeft, StopsBuild, StopsClean}
+use Rattle.hk_app.specs.declared.status.Status.TheVariants.{Ok as Done, Report, Usage, BadRules, BadSite, ReadFault, WriteFault, StoreFault, OutFault, NoMemory, BadLinks}
+use Rattle.hk_app.specs.Promise.{IsBadLinks, IsBadRules, IsBadSite, IsPast, IsPlanOf, IsRefused, IsStoreFault, IsUnplanned, IsWriteFault, Leaves, Promise, Runs, StoreLeft, StopsBuild, StopsClean}
 use Rattle.hk_app.specs.Promise.{unsaved, saved, torn_store, unbegun, partly, torn_site, past, clearing_site, clearing_cache}
 use Rattle.hk_app.specs.Site.{Reading, planned, reading}
 use Rattle.hk_app.specs.Standing.{LostSome, Same, store_path}
@@ -50,6 +50,7 @@ leaves-of words old new out out' WriteFault h = leaves words old new WriteFault 
 leaves-of words old new out out' StoreFault h = leaves words old new StoreFault h.said.text h.said.holds
 leaves-of words old new out out' OutFault h = leaves words old new h.said.status h.said.text h.said.holds
 leaves-of words old new out out' NoMemory h = h.said.leaves
+leaves-of words old new out out' BadLinks h = leaves words old new BadLinks h.said.text h.said.holds
 
 module _ (plan : PlanView) (cache after : Files) (r : IsRunBefore plan cache after) where
   abbrev Stands : Type 0
@@ -118,6 +119,7 @@ module _ (plan : PlanView) (cache after : Files) (r : IsRunBefore plan cache aft
   task-after (Some Deps) asked h = same-store h.cache
   task-after (Some Clean) asked h = clean-after asked h
   task-after (Some (Generate o)) asked h = same-folders h
+  task-after (Some Links) asked h = same-store h.cache
 
 pub store-after : (plan : PlanView) (cache after : Files) (r : IsRunBefore plan cache after) → IsStoreAfter r.words r.old r.new (get cache store_path) (get after store_path)
 store-after plan cache after r = task-after plan cache after r (command r.words) refl (leaves-of r.words r.old r.new r.out r.out' r.status r.promise)
@@ -148,6 +150,7 @@ unwritten-same Check old new text h = absurd h
 unwritten-same Deps old new text h = absurd h
 unwritten-same Clean old new text h = h.cache
 unwritten-same (Generate o) old new text h = absurd h
+unwritten-same Links old new text h = absurd h
 
 pub kept-elsewhere : (plan : PlanView) (cache after : Files) (r : IsRunBefore plan cache after) → FailsElsewhere r.status → after ≡ cache
 kept-elsewhere plan cache after r (inl unread) =
@@ -190,3 +193,6 @@ answered plan cache old new StoreFault r honest f =
     absurd (f.cache (store-cause r.options old new h.text (subst (λ d. IsStoreFault d old new h.text) (same-command r.words h.holds.task r.options h.holds.asked r.asked) h.holds.comes)))
 answered plan cache old new OutFault r honest f = absurd (f.said r.promise.said.cut.cause)
 answered plan cache old new NoMemory r honest f = wanting refl
+answered plan cache old new BadLinks r honest f =
+    let h = r.promise.said in
+    absurd (subst (λ d. IsBadLinks d old new h.text) (same-command r.words h.holds.task r.options h.holds.asked r.asked) h.holds.comes)

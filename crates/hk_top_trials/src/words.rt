@@ -41,6 +41,7 @@ fn words_are_a_command(rt: HostRuntime) -> Result<(), Fail> {
         ("check", Command::Check),
         ("deps", Command::Deps),
         ("clean", Command::Clean),
+        ("links", Command::Links),
         ("gen 7 2000", generate(7, 2000, 1)),
         ("gen 7 --workers 3 2000", generate(7, 2000, 3)),
         ("gen --workers=64 0 1", generate(0, 1, 64)),

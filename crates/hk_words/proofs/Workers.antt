@@ -9,7 +9,7 @@ use Rattle.hk_words.specs.declared.arguments.Operands.{Operands}
 use Rattle.hk_words.specs.declared.commands.Command.{Command}
 use Rattle.hk_words.specs.declared.commands.BuildOptions.{BuildOptions}
 use Rattle.hk_words.specs.declared.commands.GenerateOptions.{GenerateOptions}
-use Rattle.hk_words.specs.declared.commands.Command.TheVariants.{Build, Rebuild, Check, Deps, Clean, Generate}
+use Rattle.hk_words.specs.declared.commands.Command.TheVariants.{Build, Rebuild, Check, Deps, Clean, Generate, Links}
 use Rattle.hk_words.specs.Arguments.{arguments, arguments_in, operands, operands_in, trace_in, workers_in}
 use Rattle.hk_words.specs.Given.{Given, given}
 use Rattle.hk_words.specs.Numbers.{is_number_in, number_in}
@@ -109,7 +109,8 @@ named-fits name a h =
     (choose (bytes_eq name (codes "check")) _ _ (alone-fits Check (tt, tt) a)
     (choose (bytes_eq name (codes "deps")) _ _ (alone-fits Deps (tt, tt) a)
     (choose (bytes_eq name (codes "clean")) _ _ (alone-fits Clean (tt, tt) a)
-    (choose (bytes_eq name (codes "gen")) _ None (generate-fits a h) tt)))))
+    (choose (bytes_eq name (codes "gen")) _ _ (generate-fits a h)
+    (choose (bytes_eq name (codes "links")) _ None (alone-fits Links (tt, tt) a) tt))))))
 
 command-fits : (name : Bytes) (rest : List Bytes) → IfSome (command_of name rest) Fits
 command-fits name rest = by (arguments_in (given rest)) (arguments-within (given rest))

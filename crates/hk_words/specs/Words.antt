@@ -4,7 +4,7 @@ use Rattle.hk_base.specs.Bytes.{Bytes}
 use Rattle.hk_words.specs.declared.commands.BuildOptions.{BuildOptions}
 use Rattle.hk_words.specs.declared.commands.GenerateOptions.{GenerateOptions}
 use Rattle.hk_words.specs.declared.commands.Command.{Command}
-use Rattle.hk_words.specs.declared.commands.Command.TheVariants.{Build, Rebuild, Check, Deps, Clean, Generate}
+use Rattle.hk_words.specs.declared.commands.Command.TheVariants.{Build, Rebuild, Check, Deps, Clean, Generate, Links}
 use Rattle.hk_words.specs.declared.arguments.Arguments.{Arguments}
 use Rattle.hk_words.specs.declared.arguments.Operands.{Operands}
 use Rattle.hk_words.specs.Arguments.{arguments_in}
@@ -42,7 +42,8 @@ named name a =
     else (if bytes_eq name (codes "deps") then alone Deps a
     else (if bytes_eq name (codes "clean") then alone Clean a
     else (if bytes_eq name (codes "gen") then option_map Generate (generate_options a)
-    else None)))))
+    else (if bytes_eq name (codes "links") then alone Links a
+    else None))))))
 
 -- the command of a name with the words after it
 abbrev pub command_of : Bytes → List Bytes → Option Command
@@ -64,6 +65,7 @@ HasWorkers Check = Unit {0}
 HasWorkers Deps = Unit {0}
 HasWorkers Clean = Unit {0}
 HasWorkers (Generate o) = IsCrew o.workers
+HasWorkers Links = Unit {0}
 
 -- the posts of a generated site number 1 to 20,000
 abbrev pub HasCount : Command → Type 0

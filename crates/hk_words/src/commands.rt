@@ -15,6 +15,8 @@ pub enum Command {
     Clean,
     /// A generated site is compiled in memory.
     Generate(GenerateOptions),
+    /// The site is compiled and not written, and its links that lead nowhere are listed.
+    Links,
 }
 
 /// How a build runs, and what it prints.

@@ -6,5 +6,5 @@ ghost use Rattle.hk_words.specs.Usage.{usage};
 pub fn usage_text() -> &'static [u8]
     ensures { result.now ≡ usage }
 {
-    b"usage: hakyll_cli build [--workers N] [--trace]\n       hakyll_cli rebuild [--workers N] [--trace]\n       hakyll_cli check\n       hakyll_cli deps\n       hakyll_cli clean\n       hakyll_cli gen NUMBER COUNT [--workers N]\n"
+    b"usage: hakyll_cli build [--workers N] [--trace]\n       hakyll_cli rebuild [--workers N] [--trace]\n       hakyll_cli check\n       hakyll_cli deps\n       hakyll_cli clean\n       hakyll_cli gen NUMBER COUNT [--workers N]\n       hakyll_cli links\n"
 }

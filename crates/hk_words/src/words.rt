@@ -13,8 +13,8 @@ use std::alloc::Global;
 /// The command that the words are, or `None` exactly where they are none.
 ///
 /// The first word is the command's name. After it stand its options, in any order and each at most once, and its operands.
-/// `build` and `rebuild` take `--workers`, with the next word or what follows `=`, and `--trace`; `check`, `deps` and
-/// `clean` take nothing; `gen` takes two operands, NUMBER and COUNT, and `--workers`. Numbers are one to ten digits:
+/// `build` and `rebuild` take `--workers`, with the next word or what follows `=`, and `--trace`; `check`, `deps`, `clean`
+/// and `links` take nothing; `gen` takes two operands, NUMBER and COUNT, and `--workers`. Numbers are one to ten digits:
 /// NUMBER 0 to 4,294,967,295, COUNT 1 to 20,000, and workers 1 to 64, one where none are given. Any other word, as `--`,
 /// `-h`, `--help` or a repeated option, makes the words no command.
 ///
@@ -58,6 +58,7 @@ fn named(name: &str, arguments: &Arguments) -> Option<Command>
         "deps" => alone(Command::Deps, arguments),
         "clean" => alone(Command::Clean, arguments),
         "gen" => Some(Command::Generate(generate_options(arguments)?)),
+        "links" => alone(Command::Links, arguments),
         _ => None,
     }
 }

@@ -19,7 +19,7 @@ use Rattle.hk_app.proofs.finishing.write.Goals as goal
 pub write_site-requires : goal.write_site-requires
 write_site-requires g c =
     let over = entries_in c.args.taken.now.stored in
-    ap (λ es. ascends (paths_of es)) (ap pages_of c.deref.ensures.value ∙ c.in_ok-pages.ensures over c.requires.built.results c.requires.all) ∙ ascends-entries (site_of c.args.plan.now over)
+    ap (λ es. ascends (paths_of es)) (ap pages_of c.deref.ensures.value ∙ c.in_ok-pages.ensures.site over c.requires.built.results c.requires.all) ∙ ascends-entries (site_of c.args.plan.now over)
 
 pub done-requires : goal.done-requires
 done-requires g c =
@@ -29,7 +29,7 @@ done-requires g c =
 pub returns-in_err-ended-in-Ok-clause-ends : goal.returns-in_err-ended-in-Ok-clause-ends
 returns-in_err-ended-in-Ok-clause-ends g c =
     let over = entries_in c.args.taken.now.stored in
-    let same : pages_of c.deref.result.now ≡ entries (site_of c.args.plan.now over) = ap pages_of c.deref.ensures.value ∙ c.in_ok-pages.ensures over c.requires.built.results c.requires.all in
+    let same : pages_of c.deref.result.now ≡ entries (site_of c.args.plan.now over) = ap pages_of c.deref.ensures.value ∙ c.in_ok-pages.ensures.site over c.requires.built.results c.requires.all in
     let written = subst (λ (ps : List (Bytes × Bytes)). IfSome (g.O.Tree.files c.args.site.now) (λ m. IsWritten ps m (g.O.Tree.files c.write_site.new.site) c.in-Ok.counts)) same c.in-Ok.ensures.done in
     let p = err_from_is_err_and c.from_residual-in_err-ended-in-Ok.result c.from_residual-in_err-ended-in-Ok.ensures.1 in
     λ source source'.
@@ -43,7 +43,7 @@ returns-in_err-ended-in-Ok-clause-ends g c =
 pub returns-in-Ok-clause-ends : goal.returns-in-Ok-clause-ends
 returns-in-Ok-clause-ends g c =
     let over = entries_in c.args.taken.now.stored in
-    let same : pages_of c.deref.result.now ≡ entries (site_of c.args.plan.now over) = ap pages_of c.deref.ensures.value ∙ c.in_ok-pages.ensures over c.requires.built.results c.requires.all in
+    let same : pages_of c.deref.result.now ≡ entries (site_of c.args.plan.now over) = ap pages_of c.deref.ensures.value ∙ c.in_ok-pages.ensures.site over c.requires.built.results c.requires.all in
     let written = subst (λ (ps : List (Bytes × Bytes)). IfSome (g.O.Tree.files c.args.site.now) (λ m. IsWritten ps m (g.O.Tree.files c.write_site.new.site) c.in-Ok.counts)) same c.in-Ok.ensures.done in
     let store = c.as_slice.ensures ∙ c.requires.built.store in
     λ source source'.
@@ -57,7 +57,7 @@ returns-in-Ok-clause-ends g c =
 pub returns-clause-ends : goal.returns-clause-ends
 returns-clause-ends g c =
     let over = entries_in c.args.taken.now.stored in
-    let same : pages_of c.deref.result.now ≡ entries (site_of c.args.plan.now over) = ap pages_of c.deref.ensures.value ∙ c.in_ok-pages.ensures over c.requires.built.results c.requires.all in
+    let same : pages_of c.deref.result.now ≡ entries (site_of c.args.plan.now over) = ap pages_of c.deref.ensures.value ∙ c.in_ok-pages.ensures.site over c.requires.built.results c.requires.all in
     let wanting : IsErrOf c.write_site.result NoMemory = subst (λ r. IsErrOf r NoMemory) (sym (c.in-Err-NoMemory.is ∙ ap Err c.in-Err-NoMemory.field-0-is)) refl in
     λ source source'.
     among c.requires.all

@@ -12,3 +12,6 @@ returns-in-Clean g c = same-task _ _ _ _ c.clean.result c.in-Clean.is (c.clean.e
 
 pub returns-in-Generate : goal.returns-in-Generate
 returns-in-Generate g c = same-task _ _ _ _ c.generate.result c.in-Generate.is (c.generate.ensures _)
+
+pub returns-in-Links : goal.returns-in-Links
+returns-in-Links g c = same-task _ _ _ _ c.links.result c.in-Links.is (c.links.ensures _ _)
