@@ -1,0 +1,2 @@
+pub mod Decked
+pub mod View
