@@ -1,7 +1,8 @@
-//! Trials of the crates of compilers and boards: what public calls answer. It reads
-//! rows of outcomes and prints what is left to report of each, and then what the other trials come to.
+//! Trials of the crates of compilers and boards: what public calls answer. It reads rows, each the name of a trial or outcomes
+//! of a run, and prints what the trial comes to or what is left to report.
 #![tactic(auto)]
 
+mod answers;
 mod boards;
 mod layouts;
 mod reports;
@@ -15,25 +16,8 @@ fn main(rt: HostRuntime) -> Result<(), Fail> {
     let alloc = rt.alloc();
     for line in rt.lines(alloc) {
         let line = line?;
-        let left = reports::reported(alloc, line.as_str())?;
-        println!(rt; "{line} -> {left}")?;
+        let text = answers::answer(alloc, line.as_str())?;
+        println!(rt; "{line} -> {text}")?;
     }
-    println!(rt; "long line -> {}", reports::long_line(alloc)?)?;
-    println!(rt; "layout -> {}", layouts::layout(alloc)?)?;
-    println!(rt; "kept -> {}", layouts::kept(alloc)?)?;
-    println!(rt; "facts -> {}", layouts::facts(alloc)?)?;
-    println!(rt; "page -> {}", layouts::page(alloc)?)?;
-    println!(rt; "saved and then loaded -> {}", runs::mutual(alloc, true)?)?;
-    println!(rt; "loaded and then saved -> {}", runs::mutual(alloc, false)?)?;
-    println!(rt; "groups -> {}", runs::groups(alloc)?)?;
-    println!(rt; "one kept -> {}", runs::kept(alloc)?)?;
-    println!(rt; "fresh turns -> {}", boards::fresh_turns(alloc)?)?;
-    println!(rt; "saves -> {}", boards::saves(alloc)?)?;
-    println!(rt; "ends -> {}", boards::ends(alloc)?)?;
-    println!(rt;
-        "admitted while out -> {}",
-        boards::admits_while_out(alloc)?
-    )?;
-    println!(rt; "by hand -> {}", ways::ways(alloc)?)?;
     Ok(())
 }

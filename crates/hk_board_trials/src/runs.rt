@@ -3,21 +3,34 @@ ghost use Rattle.std.specs.Prelude.{◌≡◌};
 ghost use Rattle.hk_chain.specs.Kept.{IsKept};
 
 use crate::texts::{layout, no_facts, page, told};
-use hk_base::Shared;
+use hk_base::{NoMemory, Shared};
 use hk_chain::{Kept, Layout};
 use hk_families::{MutualMaker, SampleMaker};
-use hk_fix::{Maker, report};
+use hk_fix::{Maker, Report, Results, report};
 use hk_sched::run_one;
 use std::alloc::Global;
 use std::test::Fail;
 
-fn ran<K: Maker>(alloc: Global, layout: Layout, kept: Kept, maker: &K) -> Result<String, Fail>
+fn ended<K: Maker>(
+    alloc: Global,
+    layout: Layout,
+    kept: Kept,
+    maker: &K,
+) -> Result<(Results, Report), NoMemory>
     requires layout { layout ≡ K.M.shape (K.common_is maker.now) }
     requires kept { IsKept layout kept }
 {
     let layout = Shared::new(alloc, layout)?;
     let results = run_one(alloc, layout.try_clone()?, kept, maker)?;
     let left = report(alloc, layout.get(), &results)?;
+    Ok((results, left))
+}
+
+fn ran<K: Maker>(alloc: Global, layout: Layout, kept: Kept, maker: &K) -> Result<String, Fail>
+    requires layout { layout ≡ K.M.shape (K.common_is maker.now) }
+    requires kept { IsKept layout kept }
+{
+    let (results, left) = ended(alloc, layout, kept, maker)?;
     Ok(told(alloc, &results, &left)?)
 }
 

@@ -2,7 +2,7 @@
 use crate::generated::generated_text;
 use crate::plans::plan_text;
 use crate::rules::rules_text;
-use hk_base::{NoMemory, Text};
+use hk_base::Text;
 use std::alloc::Global;
 use std::mem;
 use std::test::Fail;
@@ -26,24 +26,30 @@ impl<'a> Case<'a> {
     /// `plan` and nothing, or `generated` with the two numbers of a generated site and nothing.
     pub fn answer(&mut self, alloc: Global, part: &'a str) -> Result<String, Fail> {
         let (head, text) = part.split_once('\n').unwrap_or((part, ""));
-        if let Some(path) = head.strip_prefix("file ") {
-            self.add_file(alloc, path, text)?;
-        } else if let Some(numbers) = head.strip_prefix("generated ") {
-            return generated_text(alloc, numbers);
-        } else if head == "rules" {
-            self.rules = text;
-            return rules_text(alloc, text);
-        } else if head == "plan" {
-            let files = mem::replace(&mut self.files, Vec::new(alloc));
-            return plan_text(alloc, self.rules, files);
+        let (word, rest) = head.split_once(' ').unwrap_or((head, ""));
+        match word {
+            "rules" => self.read_rules(alloc, text),
+            "file" => self.add_file(alloc, rest, text),
+            "plan" => self.plan(alloc),
+            "generated" => generated_text(alloc, rest),
+            _ => Ok(String::new(alloc)),
         }
-        Ok(String::new(alloc))
     }
 
-    fn add_file(&mut self, alloc: Global, path: &str, text: &str) -> Result<(), NoMemory> {
+    fn read_rules(&mut self, alloc: Global, text: &'a str) -> Result<String, Fail> {
+        self.rules = text;
+        rules_text(alloc, text)
+    }
+
+    fn add_file(&mut self, alloc: Global, path: &str, text: &str) -> Result<String, Fail> {
         let path = Text::from_slice(alloc, path.as_bytes())?;
         let text = Text::from_slice(alloc, text.as_bytes())?;
         self.files.push((path, text))?;
-        Ok(())
+        Ok(String::new(alloc))
+    }
+
+    fn plan(&mut self, alloc: Global) -> Result<String, Fail> {
+        let files = mem::replace(&mut self.files, Vec::new(alloc));
+        plan_text(alloc, self.rules, files)
     }
 }

@@ -10,11 +10,11 @@ use std::test::Fail;
 /// The files of a generated site, its rules and its plan, by its two numbers.
 pub fn generated_text(alloc: Global, numbers: &str) -> Result<String, Fail> {
     let files = site(alloc, numbers)?;
-    let mut text = files_text(alloc, &files)?;
+    let listed = files_text(alloc, &files)?;
     let rules = rules_of(alloc, &files)?;
-    text.push_str(rules_text(alloc, rules.as_str())?.as_str())?;
-    text.push_str(plan_text(alloc, rules.as_str(), without_rules(files))?.as_str())?;
-    Ok(text)
+    let told = rules_text(alloc, rules.as_str())?;
+    let plan = plan_text(alloc, rules.as_str(), without_rules(files))?;
+    Ok(format!(in alloc; "{listed}{told}{plan}")?)
 }
 
 fn site(alloc: Global, numbers: &str) -> Result<Vec<(Text, Text)>, Fail> {

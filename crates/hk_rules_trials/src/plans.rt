@@ -12,18 +12,34 @@ use std::test::Fail;
 pub fn plan_text(alloc: Global, rules: &str, files: Vec<(Text, Text)>) -> Result<String, Fail> {
     let plan = planned(alloc, rules, files)?;
     let mut text = String::new(alloc);
+    add_items(alloc, &mut text, &plan)?;
+    add_patterns(alloc, &mut text, &plan)?;
+    Ok(text)
+}
+
+fn add_items(alloc: Global, text: &mut String, plan: &Plan) -> Result<(), Fail> {
     for item in 0..plan.count() {
-        let item = ItemNo(item);
-        let files = files_text(alloc, &plan, item)?;
-        let header = header_text(alloc, &plan, item)?;
-        let pairs = pairs_text(alloc, &plan, item)?;
-        writeln!(text, "{files}; {header}; {pairs}")?;
+        let line = item_text(alloc, plan, ItemNo(item))?;
+        writeln!(text, "{line}")?;
     }
+    Ok(())
+}
+
+fn add_patterns(alloc: Global, text: &mut String, plan: &Plan) -> Result<(), Fail> {
     for number in 0..plan.pattern_count() {
-        let items = matching(alloc, &plan, number)?;
+        let items = matching(alloc, plan, number)?;
         writeln!(text, "pattern {number} matches {items}")?;
     }
-    Ok(text)
+    Ok(())
+}
+
+fn item_text(alloc: Global, plan: &Plan, item: ItemNo) -> Result<String, Fail>
+    requires { item < length plan.now.items }
+{
+    let files = files_text(alloc, plan, item)?;
+    let header = header_text(alloc, plan, item)?;
+    let pairs = pairs_text(alloc, plan, item)?;
+    Ok(format!(in alloc; "{files}; {header}; {pairs}")?)
 }
 
 fn planned(alloc: Global, rules: &str, files: Vec<(Text, Text)>) -> Result<Plan, Fail> {
@@ -42,13 +58,38 @@ fn shown(alloc: Global, bytes: Option<&[u8]>) -> Result<String, AllocError> {
 fn files_text(alloc: Global, plan: &Plan, item: ItemNo) -> Result<String, Fail>
     requires { item < length plan.now.items }
 {
+    let id = id_text(alloc, plan, item)?;
+    let target = target_text(alloc, plan, item)?;
+    let file = file_text(alloc, plan, item)?;
+    let companion = companion_text(alloc, plan, item)?;
+    Ok(format!(in alloc; "{id} to {target}; file {file}; companion {companion}")?)
+}
+
+fn id_text(alloc: Global, plan: &Plan, item: ItemNo) -> Result<String, Fail>
+    requires { item < length plan.now.items }
+{
     let id = plan.id(item);
     let found = plan.find(id);
     let id = shown(alloc, Some(id.print(alloc)?.as_slice()))?;
-    let target = shown(alloc, plan.target_of(item))?;
-    let file = shown(alloc, plan.resource(item))?;
-    let companion = shown(alloc, plan.companion(item))?;
-    Ok(format!(in alloc; "{found:?} {id} to {target}; file {file}; companion {companion}")?)
+    Ok(format!(in alloc; "{found:?} {id}")?)
+}
+
+fn target_text(alloc: Global, plan: &Plan, item: ItemNo) -> Result<String, AllocError>
+    requires { item < length plan.now.items }
+{
+    shown(alloc, plan.target_of(item))
+}
+
+fn file_text(alloc: Global, plan: &Plan, item: ItemNo) -> Result<String, AllocError>
+    requires { item < length plan.now.items }
+{
+    shown(alloc, plan.resource(item))
+}
+
+fn companion_text(alloc: Global, plan: &Plan, item: ItemNo) -> Result<String, AllocError>
+    requires { item < length plan.now.items }
+{
+    shown(alloc, plan.companion(item))
 }
 
 /// Where an item's body starts, and its values of two keys.
@@ -56,9 +97,15 @@ fn header_text(alloc: Global, plan: &Plan, item: ItemNo) -> Result<String, Alloc
     requires { item < length plan.now.items }
 {
     let start = plan.body_start(item);
-    let first = shown(alloc, plan.meta(item).get(b"k"))?;
-    let second = shown(alloc, plan.meta(item).get(b"l"))?;
+    let first = value_text(alloc, plan, item, b"k")?;
+    let second = value_text(alloc, plan, item, b"l")?;
     format!(in alloc; "body at {start}; k {first}; l {second}")
+}
+
+fn value_text(alloc: Global, plan: &Plan, item: ItemNo, key: &[u8]) -> Result<String, AllocError>
+    requires { item < length plan.now.items }
+{
+    shown(alloc, plan.meta(item).get(key))
 }
 
 /// The pairs of an item with two names.

@@ -1,9 +1,9 @@
 // Which values the rules of a file have, as text.
-use hk_base::Text;
+use hk_base::{Identifier, Text};
 use hk_chain::{Context, Field, Order, Step};
 use hk_pattern::Pattern;
 use hk_route::Route;
-use hk_rules::{Rule, RuleSource, read_rules};
+use hk_rules::{Rule, RuleSource, Rules, read_rules};
 use std::alloc::{AllocError, Global};
 use std::test::Fail;
 
@@ -24,18 +24,24 @@ fn glob_shown(pattern: &Pattern) -> &str {
 
 fn source_text(alloc: Global, source: &RuleSource) -> Result<String, AllocError> {
     match source {
-        RuleSource::Match(pattern) => {
-            let glob = glob_shown(pattern);
-            format!(in alloc; "match {glob}")
-        }
-        RuleSource::Create(ids) => match ids.as_slice() {
-            [id] => {
-                let path = text_shown(id.path());
-                format!(in alloc; "create {path}")
-            }
-            _ => format!(in alloc; "?"),
-        },
+        RuleSource::Match(pattern) => worded(alloc, "match", glob_shown(pattern)),
+        RuleSource::Create(ids) => created(alloc, ids.as_slice()),
     }
+}
+
+fn created(alloc: Global, ids: &[Identifier]) -> Result<String, AllocError> {
+    match ids {
+        [id] => worded(alloc, "create", text_shown(id.path())),
+        _ => String::from_str(alloc, "?"),
+    }
+}
+
+fn worded(alloc: Global, word: &str, text: &str) -> Result<String, AllocError> {
+    format!(in alloc; "{word} {text}")
+}
+
+fn numbered(alloc: Global, word: &str, number: u32) -> Result<String, AllocError> {
+    format!(in alloc; "{word} {number}")
 }
 
 fn route_text(route: &Option<Route>) -> &str {
@@ -49,29 +55,33 @@ fn route_text(route: &Option<Route>) -> &str {
 
 fn step_text(alloc: Global, step: &Step) -> Result<String, AllocError> {
     match step {
-        Step::Body => format!(in alloc; "body"),
-        Step::Str => format!(in alloc; "string"),
-        Step::Copy => format!(in alloc; "copy"),
-        Step::TemplateBody => format!(in alloc; "template"),
-        Step::Make(_) => format!(in alloc; "make"),
-        Step::Apply { id, context } => {
-            let (path, context) = (text_shown(id.path()), context.0);
-            format!(in alloc; "apply {path} {context}")
-        }
-        Step::SelfApply(context) => {
-            let context = context.0;
-            format!(in alloc; "self {context}")
-        }
-        Step::Save(name) => {
-            let name = shown(name);
-            format!(in alloc; "save {name}")
-        }
-        Step::Concat(pattern) => {
-            let pattern = pattern.0;
-            format!(in alloc; "concat {pattern}")
-        }
-        Step::Relativize => format!(in alloc; "relativize"),
-        _ => format!(in alloc; "?"),
+        Step::Apply { id, context } => numbered_path(alloc, "apply", id, context.0),
+        Step::SelfApply(context) => numbered(alloc, "self", context.0),
+        Step::Save(name) => worded(alloc, "save", shown(name)),
+        Step::Concat(pattern) => numbered(alloc, "concat", pattern.0),
+        _ => String::from_str(alloc, step_word(step)),
+    }
+}
+
+fn numbered_path(
+    alloc: Global,
+    word: &str,
+    id: &Identifier,
+    number: u32,
+) -> Result<String, AllocError> {
+    let path = text_shown(id.path());
+    format!(in alloc; "{word} {path} {number}")
+}
+
+fn step_word(step: &Step) -> &str {
+    match step {
+        Step::Body => "body",
+        Step::Str => "string",
+        Step::Copy => "copy",
+        Step::TemplateBody => "template",
+        Step::Make(_) => "make",
+        Step::Relativize => "relativize",
+        _ => "?",
     }
 }
 
@@ -90,16 +100,22 @@ fn rule_text(alloc: Global, rule: &Rule) -> Result<String, AllocError> {
 
 fn field_text(alloc: Global, field: &Field) -> Result<String, AllocError> {
     match field {
-        Field::Body => format!(in alloc; "body"),
-        Field::Metadata => format!(in alloc; "metadata"),
-        Field::Url => format!(in alloc; "url"),
-        Field::Path => format!(in alloc; "path"),
-        Field::Title => format!(in alloc; "title"),
         Field::Const(key, text) => two(alloc, "const", key, text),
         Field::Date(key, text) => two(alloc, "date", key, text),
         Field::Teaser(key, text) => two(alloc, "teaser", key, text),
-        Field::Bool(..) => format!(in alloc; "?"),
         Field::List { .. } => list_text(alloc, field),
+        _ => String::from_str(alloc, field_word(field)),
+    }
+}
+
+fn field_word(field: &Field) -> &str {
+    match field {
+        Field::Body => "body",
+        Field::Metadata => "metadata",
+        Field::Url => "url",
+        Field::Path => "path",
+        Field::Title => "title",
+        _ => "?",
     }
 }
 
@@ -118,17 +134,25 @@ fn list_text(alloc: Global, field: &Field) -> Result<String, AllocError> {
         context,
     } = field
     else {
-        return format!(in alloc; "?");
+        return String::from_str(alloc, "?");
     };
     let (key, of, snapshot, context) = (shown(key), of.0, shown(snapshot), context.0);
-    let order = match order {
+    let (order, limit) = (order_word(order), limit_text(alloc, *limit)?);
+    format!(in alloc; "list {key} of {of} {snapshot} {order} {limit} {context}")
+}
+
+fn order_word(order: &Order) -> &str {
+    match order {
         Order::Id => "id",
         Order::Chronological => "chronological",
         Order::Recent => "recent",
-    };
+    }
+}
+
+fn limit_text(alloc: Global, limit: Option<u32>) -> Result<String, AllocError> {
     match limit {
-        None => format!(in alloc; "list {key} of {of} {snapshot} {order} all {context}"),
-        Some(limit) => format!(in alloc; "list {key} of {of} {snapshot} {order} {limit} {context}"),
+        Some(limit) => format!(in alloc; "{limit}"),
+        None => String::from_str(alloc, "all"),
     }
 }
 
@@ -145,18 +169,37 @@ fn context_text(alloc: Global, context: &Context) -> Result<String, AllocError> 
 
 /// A line for each rule, each context and each pattern of a rules file.
 pub fn rules_text(alloc: Global, text: &str) -> Result<String, Fail> {
-    let rules = read_rules(alloc, text.as_bytes())?;
+    let rules = rules_of(alloc, text)?;
     let mut lines = String::new(alloc);
-    for rule in rules.rules.iter() {
-        add_line(&mut lines, rule_text(alloc, rule)?.as_str())?;
-    }
-    for context in rules.contexts.iter() {
-        add_line(&mut lines, context_text(alloc, context)?.as_str())?;
-    }
-    for pattern in rules.patterns.iter() {
-        add_line(&mut lines, glob_shown(pattern))?;
-    }
+    add_rules(alloc, &mut lines, &rules.rules)?;
+    add_contexts(alloc, &mut lines, &rules.contexts)?;
+    add_patterns(&mut lines, &rules.patterns)?;
     Ok(lines)
+}
+
+fn rules_of(alloc: Global, text: &str) -> Result<Rules, Fail> {
+    Ok(read_rules(alloc, text.as_bytes())?)
+}
+
+fn add_rules(alloc: Global, lines: &mut String, rules: &[Rule]) -> Result<(), AllocError> {
+    for rule in rules {
+        add_line(lines, rule_text(alloc, rule)?.as_str())?;
+    }
+    Ok(())
+}
+
+fn add_contexts(alloc: Global, lines: &mut String, contexts: &[Context]) -> Result<(), AllocError> {
+    for context in contexts {
+        add_line(lines, context_text(alloc, context)?.as_str())?;
+    }
+    Ok(())
+}
+
+fn add_patterns(lines: &mut String, patterns: &[Pattern]) -> Result<(), AllocError> {
+    for pattern in patterns {
+        add_line(lines, glob_shown(pattern))?;
+    }
+    Ok(())
 }
 
 fn add_line(lines: &mut String, line: &str) -> Result<(), AllocError> {

@@ -1,6 +1,7 @@
 // Machines that are polled to their end.
 ghost use Rattle.std.specs.Prelude.{◌≡◌, ◌<◌};
 
+use crate::ends::end_text;
 use crate::plans::item;
 use crate::site::Site;
 use hk_chain::{ItemNo, PageRef};
@@ -13,19 +14,16 @@ use std::test::Fail;
 const MANY: usize = 25_000;
 
 /// How the machine of the item with this path ends, where the pairs that it asks for are answered with these pages in their
-/// order, and all further ones with the last page; and how many pairs it asked for.
-pub fn ended(
-    alloc: Global,
-    site: &Site,
-    path: &[u8],
-    pages: &[PageRef],
-) -> Result<(Polled, usize), Fail> {
+/// order, and all further ones with the last page; and how many pairs it was told.
+pub fn ended(alloc: Global, site: &Site, path: &[u8], pages: &[PageRef]) -> Result<String, Fail> {
     let item = item(alloc, site.plan.get(), path)?;
     if item.0 >= site.plan.get().count() {
         return Err(Fail::from("no such item"));
     }
     let maker = PlanMaker::new(site.plan.try_clone()?);
-    driven(alloc, &maker, item, pages)
+    let (end, answered) = driven(alloc, &maker, item, pages)?;
+    let end = end_text(alloc, &end)?;
+    Ok(format!(in alloc; "{end}, {answered} answers")?)
 }
 
 /// Polls a compiler to its end.

@@ -2,9 +2,8 @@
 use crate::driving::ended;
 use crate::plans::planned;
 use crate::renderings::page;
-use hk_base::Text;
+use hk_base::{NoMemory, Text};
 use hk_chain::Kind;
-use hk_fix::Polled;
 use std::alloc::Global;
 use std::test::Fail;
 
@@ -18,15 +17,12 @@ const AFTER: &[u8] =
     b"\" }, { self = \"out\" }]\n\n[context.one]\nfields = [{ teaser = [\"t\", \"s\"] }, \"path\"]\n\n[context.out]\nfields = [{ list = \"posts\", of = \"p/*\", context = \"one\" }]\n";
 
 /// `p/` and a number of five digits.
-fn path_of(alloc: Global, number: usize) -> Result<Text, Fail> {
-    let mut path = Vec::from_slice(alloc, b"p/")?;
-    for divisor in [10_000, 1000, 100, 10, 1] {
-        path.push(b'0' + (number / divisor % 10) as u8)?;
-    }
-    Ok(Text::from_vec(path))
+fn path_of(alloc: Global, number: usize) -> Result<Text, NoMemory> {
+    let path = format!(in alloc; "p/{number:05}")?;
+    Text::from_slice(alloc, path.as_bytes())
 }
 
-fn files(alloc: Global) -> Result<Vec<(Text, Text)>, Fail> {
+fn files(alloc: Global) -> Result<Vec<(Text, Text)>, NoMemory> {
     let mut files = Vec::with_capacity(alloc, COUNT)?;
     for number in 1..=COUNT {
         files.push((path_of(alloc, number)?, Text::from_slice(alloc, b"")?))?;
@@ -46,19 +42,9 @@ fn rules(alloc: Global) -> Result<Vec<u8>, Fail> {
     Ok(rules)
 }
 
-#[test]
-fn a_list_of_many_items(rt: HostRuntime) -> Result<(), Fail> {
-    let alloc = rt.alloc();
-    let files = files(alloc)?;
-    let rules = rules(alloc)?;
-    let site = planned(alloc, &rules, files)?;
+/// How the machine ends that renders all of them.
+pub fn rendered(alloc: Global) -> Result<String, Fail> {
+    let site = planned(alloc, &rules(alloc)?, files(alloc)?)?;
     let pages = [page(alloc, Kind::Text, b"x<!--more-->")?];
-    let (end, answered) = ended(alloc, &site, b"all", &pages)?;
-    let Polled::Done(page, facts) = end else {
-        return Err(Fail::from("no page"));
-    };
-    assert_eq!(rt; page.get().body.as_slice().len(), 7_020_000);
-    assert_eq!(rt; answered, 40_000);
-    assert_eq!(rt; facts.asks.len(), 40_000);
-    Ok(())
+    ended(alloc, &site, b"all", &pages)
 }

@@ -1,6 +1,6 @@
 // Plans of a rules file and of files.
 use crate::site::Site;
-use hk_base::{Identifier, Shared, Text};
+use hk_base::{Identifier, NoMemory, Shared, Text};
 use hk_chain::{ItemNo, PairNo};
 use hk_rules::{Plan, make_plan, read_rules};
 use std::alloc::Global;
@@ -20,13 +20,11 @@ pub fn planned(alloc: Global, rules: &[u8], files: Vec<(Text, Text)>) -> Result<
 }
 
 /// Copies of files, each a path and its bytes.
-pub fn copied(alloc: Global, files: &[(&[u8], &[u8])]) -> Result<Vec<(Text, Text)>, Fail> {
+pub fn copied(alloc: Global, files: &[(Text, Text)]) -> Result<Vec<(Text, Text)>, NoMemory> {
     let mut listed = Vec::new(alloc);
     for (path, bytes) in files {
-        listed.push((
-            Text::from_slice(alloc, path)?,
-            Text::from_slice(alloc, bytes)?,
-        ))?;
+        let path = Text::from_slice(alloc, path.as_slice())?;
+        listed.push((path, Text::from_slice(alloc, bytes.as_slice())?))?;
     }
     Ok(listed)
 }

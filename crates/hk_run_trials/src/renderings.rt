@@ -2,35 +2,34 @@
 ghost use Rattle.std.specs.Prelude.{◌≡◌, [], false, IfOk, OnOk, MatchOption, Contains};
 ghost use Rattle.hk_template.specs.Template.{IsPrintable};
 
+use crate::ends::{fault_text, shown};
 use crate::plans::{item, pair};
 use crate::site::Site;
 use hk_base::Text;
-use hk_chain::{ContextNo, Fault, ItemNo, Kind, Page, PageRef, PairNo};
+use hk_chain::{ContextNo, ItemNo, Kind, Page, PageRef, PairNo};
 use hk_eval::{Render, RenderStep};
 use hk_rules::Plan;
 use hk_template::{Template, parse};
 use std::alloc::Global;
 use std::test::Fail;
 
-/// A page that is answered: the path of its item, its name, its kind and its body.
-pub type Known<'a> = (&'a [u8], &'a [u8], Kind, &'a [u8]);
-
-/// How a rendering ended, with the pairs that it asked for.
+/// A page that is answered: the path of its item, its name and the page.
 #[derive(Drop)]
-pub struct Ended {
-    /// The text, or `!` and the fault.
-    pub text: Text,
-    pub asked: usize,
+pub struct Known {
+    pub path: Text,
+    pub name: Text,
+    pub page: PageRef,
 }
 
-/// Renders a template in the context with this number, for the item `a.md` and a text as its page.
+/// Renders a template in the context with this number, for the item `a.md` and a text as its page: the text, or `!` and the
+/// fault, and how many pairs were asked for.
 pub fn rendered(
     alloc: Global,
     site: &Site,
     template: &[u8],
     context: u32,
-    known: &[Known<'_>],
-) -> Result<Ended, Fail> {
+    known: &[Known],
+) -> Result<String, Fail> {
     let Ok(tree) = parse(alloc, template) else {
         return Err(Fail::from("no template"));
     };
@@ -61,7 +60,7 @@ fn begun(
 }
 
 /// Polls a rendering to its end, and answers what it asks for.
-fn driven(alloc: Global, plan: &Plan, render: Render, known: &[Known<'_>]) -> Result<Ended, Fail>
+fn driven(alloc: Global, plan: &Plan, render: Render, known: &[Known]) -> Result<String, Fail>
     requires { (render.awaits ≡ []) × (render.has_ended ≡ false) }
 {
     let mut render = render;
@@ -78,24 +77,16 @@ fn driven(alloc: Global, plan: &Plan, render: Render, known: &[Known<'_>]) -> Re
                 if render.facts().asks.len() != asked {
                     return Err(Fail::from("other facts"));
                 }
-                return Ok(Ended { text, asked });
+                return told(alloc, shown(alloc, text.as_slice())?, asked);
             }
-            RenderStep::Fail(fault) => {
-                let text = named(alloc, &fault)?;
-                return Ok(Ended { text, asked });
-            }
+            RenderStep::Fail(fault) => return told(alloc, fault_text(alloc, &fault)?, asked),
         }
     }
     Err(Fail::from("too many polls"))
 }
 
 /// Answers all open pairs, and counts them.
-fn answered(
-    alloc: Global,
-    plan: &Plan,
-    render: &mut Render,
-    known: &[Known<'_>],
-) -> Result<usize, Fail>
+fn answered(alloc: Global, plan: &Plan, render: &mut Render, known: &[Known]) -> Result<usize, Fail>
     ensures { OnOk result ((render.new.awaits ≡ []) × (render.new.has_ended ≡ render.old.has_ended)) }
 {
     for count in 0..1000 {
@@ -123,41 +114,22 @@ fn known_page(
     alloc: Global,
     plan: &Plan,
     wanted: PairNo,
-    known: &[Known<'_>],
+    known: &[Known],
 ) -> Result<PageRef, Fail> {
-    for (path, name, kind, body) in known {
-        if pair(alloc, plan, path, name)? == wanted {
-            return page(alloc, *kind, body);
+    for known in known {
+        if pair(alloc, plan, known.path.as_slice(), known.name.as_slice())? == wanted {
+            return Ok(known.page.try_clone()?);
         }
     }
     Err(Fail::from("no such page"))
+}
+
+fn told(alloc: Global, text: String, asked: usize) -> Result<String, Fail> {
+    Ok(format!(in alloc; "{text}, {asked} asks")?)
 }
 
 /// A page.
 pub fn page(alloc: Global, kind: Kind, body: &[u8]) -> Result<PageRef, Fail> {
     let body = Text::from_slice(alloc, body)?;
     Ok(PageRef::new(alloc, Page { kind, body })?)
-}
-
-/// A fault in a word.
-fn named(alloc: Global, fault: &Fault) -> Result<Text, Fail> {
-    let mut out = Vec::from_slice(alloc, b"!")?;
-    match fault {
-        Fault::Missing { id } => said(&mut out, b"missing ", id.path())?,
-        Fault::NoSnapshot { id, .. } => said(&mut out, b"no snapshot of ", id.path())?,
-        Fault::WrongKind { id } => said(&mut out, b"wrong kind of ", id.path())?,
-        Fault::BadTemplate { .. } => said(&mut out, b"bad template", b"")?,
-        Fault::NoKey { key } => said(&mut out, b"no key ", key.as_slice())?,
-        Fault::NotList { key } => said(&mut out, b"no list ", key.as_slice())?,
-        Fault::NotText { key } => said(&mut out, b"no text ", key.as_slice())?,
-        Fault::TooDeep => said(&mut out, b"too deep", b"")?,
-        Fault::NoDate { id } => said(&mut out, b"no date of ", id.path())?,
-    }
-    Ok(Text::from_vec(out))
-}
-
-fn said(out: &mut Vec<u8>, word: &[u8], name: &[u8]) -> Result<(), Fail> {
-    out.extend_from_slice(word)?;
-    out.extend_from_slice(name)?;
-    Ok(())
 }

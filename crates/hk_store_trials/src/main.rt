@@ -1,12 +1,11 @@
-//! Trials of the crate that keeps results: fingerprints, digests and the text of a store. It reads rows that stand for
-//! bytes, and prints what reading them as a store answers.
+//! Trials of the crate that keeps results: fingerprints, digests and the text of a store. It reads rows, each a sign and a
+//! text that stands for bytes, and prints what the call of that sign answers.
 #![tactic(auto)]
 
-#[cfg(test)]
 mod fingerprints;
+mod pages;
 mod reading;
-#[cfg(test)]
-mod stores;
+mod row;
 
 use std::test::Fail;
 
@@ -14,7 +13,7 @@ fn main(rt: HostRuntime) -> Result<(), Fail> {
     let alloc = rt.alloc();
     for line in rt.lines(alloc) {
         let line = line?;
-        let answer = reading::answered(alloc, line.as_str())?;
+        let answer = row::answered(alloc, line.as_str())?;
         println!(rt; "{line} -> {answer}")?;
     }
     Ok(())

@@ -7,34 +7,14 @@ use sha2::{Digest, Sha256};
 use std::alloc::Global;
 use std::test::Fail;
 
-/// A digest on its line.
-const DIGEST: &[u8] = b"0123456789abcdef0123456789abcdef0123456789abcdef0123456789abcdef\n";
-
-/// What reading the bytes of a row answers. A row is a sign, which says what trailer they have, and their text, where `|`
-/// stands for LF and `@` for the line of a digest.
-pub(crate) fn answered(alloc: Global, row: &str) -> Result<String, Fail> {
-    let Some((sign, text)) = row.as_bytes().split_first() else {
-        return Ok(told(alloc, b"")?);
-    };
-    let text = unpacked(alloc, text)?;
-    match *sign {
-        b'=' => Ok(told(alloc, &sealed(alloc, &text)?)?),
-        b'!' => Ok(told(alloc, &broken(alloc, &text)?)?),
-        b'<' => fronts(alloc, &sealed(alloc, &text)?),
-        _ => Ok(told(alloc, &text)?),
-    }
+/// What reading the text with its trailer answers.
+pub fn sealed_told(alloc: Global, text: &[u8]) -> Result<String, Fail> {
+    told(alloc, &sealed(alloc, text)?)
 }
 
-fn unpacked(alloc: Global, text: &[u8]) -> Result<Vec<u8>, NoMemory> {
-    let mut bytes = Vec::new(alloc);
-    for byte in text {
-        match *byte {
-            b'|' => bytes.push(b'\n')?,
-            b'@' => bytes.extend_from_slice(DIGEST)?,
-            other => bytes.push(other)?,
-        }
-    }
-    Ok(bytes)
+/// The same with a trailer that has another last bit.
+pub fn broken_told(alloc: Global, text: &[u8]) -> Result<String, Fail> {
+    told(alloc, &broken(alloc, text)?)
 }
 
 fn trailer_of(text: &[u8]) -> [u8; 32] {
@@ -60,7 +40,11 @@ fn broken(alloc: Global, text: &[u8]) -> Result<Vec<u8>, NoMemory> {
 }
 
 /// How the bytes are read, and whether what is read is printed as them.
-fn told(alloc: Global, bytes: &[u8]) -> Result<String, NoMemory> {
+pub fn told(alloc: Global, bytes: &[u8]) -> Result<String, Fail> {
+    Ok(answered(alloc, bytes)?)
+}
+
+fn answered(alloc: Global, bytes: &[u8]) -> Result<String, NoMemory> {
     match read_store(alloc, bytes) {
         Ok(stored) => printed(alloc, &stored, bytes),
         Err(Refusal::NoMemory) => Err(NoMemory),
@@ -84,8 +68,25 @@ fn printed(alloc: Global, stored: &Stored, bytes: &[u8]) -> Result<String, NoMem
     }
 }
 
-/// How many of the fronts of the bytes, from none of them to all but the last, are read as bytes with a bad trailer.
-fn fronts(alloc: Global, bytes: &[u8]) -> Result<String, Fail> {
+/// The store that the text with its trailer is read as, printed again.
+pub fn printed_again(alloc: Global, text: &[u8]) -> Result<String, Fail> {
+    match read_store(alloc, &sealed(alloc, text)?) {
+        Ok(stored) => shown(alloc, &stored),
+        Err(_) => Err(Fail::new("no store")),
+    }
+}
+
+fn shown(alloc: Global, stored: &Stored) -> Result<String, Fail>
+    requires { IsStored stored.now }
+{
+    let text = print_store(alloc, stored)?;
+    Ok(format!(in alloc; "{}", text.as_slice().escape_ascii())?)
+}
+
+/// How many of the fronts of the text with its trailer, from none of it to all but the last byte, are read as bytes with a
+/// bad trailer.
+pub fn fronts(alloc: Global, text: &[u8]) -> Result<String, Fail> {
+    let bytes = sealed(alloc, text)?;
     let mut bad = 0u64;
     for count in 0..bytes.len() {
         if is_bad_trailer(alloc, &bytes[..count])? {

@@ -1,30 +1,53 @@
-// Which call a row is of.
+// Which call a row is of. Each function knows the calls of one crate, and hands others on.
+use crate::row::{first, optional, second, third};
 use crate::{folders, headers, identifiers, pages, patterns, templates};
 use std::alloc::Global;
 use std::test::Fail;
 
-/// What the call of this name answers to these arguments.
+/// What the call of this name answers to these arguments. Where one is missing, it is empty.
 pub fn answer(alloc: Global, call: &str, args: &[Vec<u8>]) -> Result<String, Fail> {
-    match (call, args) {
-        ("identifier", [path]) => identifiers::identifier(alloc, path, None),
-        ("identifier", [path, version]) => identifiers::identifier(alloc, path, Some(version)),
-        ("order", [first, second]) => identifiers::order(alloc, first, second),
-        ("path", [path]) => identifiers::path(alloc, path),
-        ("glob", [glob, path]) => patterns::glob(alloc, glob, path),
-        ("pattern", [path]) => patterns::pattern(alloc, path, None),
-        ("pattern", [path, version]) => patterns::pattern(alloc, path, Some(version)),
-        ("header", [file]) => headers::header(alloc, file),
-        ("companion", [text]) => headers::companion(alloc, text),
-        ("both", [file, text]) => headers::both(alloc, file, text),
-        ("date", [text, path, pattern]) => headers::date(alloc, text, path, pattern),
-        ("relative", [target, body]) => pages::relative(alloc, target, body),
-        ("links", [body]) => pages::linked(alloc, body),
-        ("url", [target]) => pages::url(alloc, target),
-        ("teaser", [body]) => pages::front(alloc, body),
-        ("template", [text]) => templates::template(alloc, text),
-        ("folder", [fuse]) => folders::folder(alloc, fuse),
-        ("torn", [count]) => folders::torn(alloc, count),
-        ("output", [_]) => folders::output(alloc),
+    match call {
+        "identifier" => identifiers::identifier(alloc, first(args), optional(args, 1)),
+        "order" => identifiers::order(alloc, first(args), second(args)),
+        "path" => identifiers::path(alloc, first(args)),
+        _ => of_patterns(alloc, call, args),
+    }
+}
+
+fn of_patterns(alloc: Global, call: &str, args: &[Vec<u8>]) -> Result<String, Fail> {
+    match call {
+        "glob" => patterns::glob(alloc, first(args), second(args)),
+        "pattern" => patterns::pattern(alloc, first(args), optional(args, 1)),
+        _ => of_headers(alloc, call, args),
+    }
+}
+
+fn of_headers(alloc: Global, call: &str, args: &[Vec<u8>]) -> Result<String, Fail> {
+    match call {
+        "header" => headers::header(alloc, first(args)),
+        "companion" => headers::companion(alloc, first(args)),
+        "both" => headers::both(alloc, first(args), second(args)),
+        "date" => headers::date(alloc, first(args), second(args), third(args)),
+        _ => of_pages(alloc, call, args),
+    }
+}
+
+fn of_pages(alloc: Global, call: &str, args: &[Vec<u8>]) -> Result<String, Fail> {
+    match call {
+        "relative" => pages::relative(alloc, first(args), second(args)),
+        "links" => pages::linked(alloc, first(args)),
+        "url" => pages::url(alloc, first(args)),
+        "teaser" => pages::front(alloc, first(args)),
+        "template" => templates::template(alloc, first(args)),
+        _ => of_folders(alloc, call, args),
+    }
+}
+
+fn of_folders(alloc: Global, call: &str, args: &[Vec<u8>]) -> Result<String, Fail> {
+    match call {
+        "folder" => folders::folder(alloc, first(args)),
+        "torn" => folders::torn(alloc, first(args)),
+        "output" => folders::output(alloc),
         _ => Ok(String::from_str(alloc, "no such call")?),
     }
 }

@@ -1,6 +1,6 @@
 // Identifiers: their limits, their order and their printing.
 use crate::row::{shown, yes_or_no};
-use hk_base::{Identifier, Shared, is_path};
+use hk_base::{Identifier, NoMemory, Shared, is_path};
 use std::alloc::Global;
 use std::test::Fail;
 
@@ -13,16 +13,25 @@ pub fn identifier(alloc: Global, path: &[u8], version: Option<&[u8]>) -> Result<
 }
 
 fn printed(alloc: Global, id: Identifier) -> Result<String, Fail> {
-    let id = Shared::new(alloc, id)?;
-    let other = id.try_clone()?.get().copy(alloc)?;
+    let other = copied(alloc, id)?;
     Ok(shown(alloc, other.print(alloc)?.as_slice())?)
+}
+
+/// A copy, by way of a second owner.
+fn copied(alloc: Global, id: Identifier) -> Result<Identifier, NoMemory> {
+    let id = Shared::new(alloc, id)?;
+    id.try_clone()?.get().copy(alloc)
 }
 
 /// Whether a path without a version is before a path with one.
 pub fn order(alloc: Global, first: &[u8], second: &[u8]) -> Result<String, Fail> {
-    let first = Identifier::read(alloc, first, None)?;
-    let second = Identifier::read(alloc, second, Some(b"raw"))?;
+    let first = read(alloc, first, None)?;
+    let second = read(alloc, second, Some(b"raw"))?;
     yes_or_no(alloc, first < second)
+}
+
+fn read(alloc: Global, path: &[u8], version: Option<&[u8]>) -> Result<Identifier, Fail> {
+    Ok(Identifier::read(alloc, path, version)?)
 }
 
 pub fn path(alloc: Global, path: &[u8]) -> Result<String, Fail> {

@@ -5,9 +5,9 @@ ghost use Rattle.hk_writer.specs.Pages.{pages_of};
 
 use hk_base::{NoMemory, Text};
 use hk_chain::{Kind, Page, PageRef};
-use hk_outside::MemTree;
+use hk_outside::{MemTree, TreeFault};
 use hk_writer::{Counts, PageOut, write_site};
-use std::alloc::Global;
+use std::alloc::{AllocError, Global};
 use std::test::Fail;
 
 fn page(alloc: Global, target: &[u8], body: &[u8]) -> Result<PageOut, NoMemory>
@@ -37,37 +37,61 @@ fn pages(alloc: Global) -> Result<Vec<PageOut>, NoMemory>
     Ok(pages)
 }
 
-/// A folder with a page that is right, one that is old, and two files that are no pages.
-fn folder(alloc: Global) -> Result<MemTree, NoMemory> {
+/// A page that is right, one that is old, and two files that are no pages.
+const FILES: &str = "a.html=a\n;b.html=old\n;c=x;z.html=z\n";
+
+fn files(alloc: Global) -> Result<Vec<(Text, Text)>, NoMemory> {
     let mut files = Vec::new(alloc);
-    for (path, bytes) in [
-        ("a.html", "a\n"),
-        ("b.html", "old\n"),
-        ("c", "x"),
-        ("z.html", "z\n"),
-    ] {
-        files.push((
-            Text::from_slice(alloc, path.as_bytes())?,
-            Text::from_slice(alloc, bytes.as_bytes())?,
-        ))?;
+    for file in FILES.split(';') {
+        let (path, bytes) = file.split_once('=').unwrap_or((file, ""));
+        files.push((text_of(alloc, path)?, text_of(alloc, bytes)?))?;
     }
-    MemTree::new(alloc, files, Vec::new(alloc), None)
+    Ok(files)
 }
 
-#[test]
-fn a_site_is_written_and_written_again(rt: HostRuntime) -> Result<(), Fail> {
-    let alloc = rt.alloc();
+fn text_of(alloc: Global, text: &str) -> Result<Text, NoMemory> {
+    Text::from_slice(alloc, text.as_bytes())
+}
+
+fn folder(alloc: Global) -> Result<MemTree, NoMemory> {
+    MemTree::new(alloc, files(alloc)?, Vec::new(alloc), None)
+}
+
+/// What each of two writings of the pages did and left.
+pub fn written_twice(alloc: Global) -> Result<String, Fail> {
     let mut site = folder(alloc)?;
+    let first = written(alloc, &mut site)?;
+    let second = written(alloc, &mut site)?;
+    Ok(format!(in alloc; "{first}\n{second}")?)
+}
+
+fn written(alloc: Global, site: &mut MemTree) -> Result<String, Fail> {
+    let counts = write(alloc, site)?;
+    let left = left(alloc, site)?;
+    Ok(format!(in alloc; "{counts:?}{left}")?)
+}
+
+fn write(alloc: Global, site: &mut MemTree) -> Result<Counts, TreeFault> {
     let pages = pages(alloc)?;
-    for (written, removed) in [(2, 2), (0, 0)] {
-        let Ok(counts) = write_site(alloc, &mut site, &pages) else {
-            return Err(Fail::new("refused"));
-        };
-        assert!(rt; counts == Counts { written, removed });
-        assert!(rt; site.get(b"a.html") == Some(b"a\n".as_slice()));
-        assert!(rt; site.get(b"b.html") == Some(b"b\n".as_slice()));
-        assert!(rt; site.get(b"c/d.html") == Some(b"d\n".as_slice()));
-        assert!(rt; site.get(b"z.html").is_none());
+    write_site(alloc, site, &pages)
+}
+
+/// What stands at the paths of the pages and of a file that is none.
+fn left(alloc: Global, site: &MemTree) -> Result<String, Fail> {
+    let mut text = String::new(alloc);
+    for path in "a.html b.html c/d.html z.html".split(' ') {
+        text.push_str(left_at(alloc, site, path)?.as_str())?;
     }
-    Ok(())
+    Ok(text)
+}
+
+fn left_at(alloc: Global, site: &MemTree, path: &str) -> Result<String, AllocError> {
+    told(alloc, path, site.get(path.as_bytes()))
+}
+
+fn told(alloc: Global, path: &str, bytes: Option<&[u8]>) -> Result<String, AllocError> {
+    match bytes {
+        Some(bytes) => format!(in alloc; ", {path}: {}", bytes.escape_ascii()),
+        None => format!(in alloc; ", no {path}"),
+    }
 }

@@ -19,24 +19,22 @@ enum Step {
 
 use Step::{Join, Split};
 
-// Three seats are split and joined. At each join any of the seats that are out comes back.
-const ORDERS: [[Step; 6]; 15] = [
-    [Split, Join(0), Split, Join(0), Split, Join(0)],
-    [Split, Join(0), Split, Split, Join(0), Join(0)],
-    [Split, Join(0), Split, Split, Join(1), Join(0)],
-    [Split, Split, Join(0), Join(0), Split, Join(0)],
-    [Split, Split, Join(1), Join(0), Split, Join(0)],
-    [Split, Split, Join(0), Split, Join(0), Join(0)],
-    [Split, Split, Join(0), Split, Join(1), Join(0)],
-    [Split, Split, Join(1), Split, Join(0), Join(0)],
-    [Split, Split, Join(1), Split, Join(1), Join(0)],
-    [Split, Split, Split, Join(0), Join(0), Join(0)],
-    [Split, Split, Split, Join(0), Join(1), Join(0)],
-    [Split, Split, Split, Join(1), Join(0), Join(0)],
-    [Split, Split, Split, Join(1), Join(1), Join(0)],
-    [Split, Split, Split, Join(2), Join(0), Join(0)],
-    [Split, Split, Split, Join(2), Join(1), Join(0)],
-];
+/// `S` is a split, and a digit the place of the seat that is joined.
+fn step_of(letter: u8) -> Step {
+    if letter == b'S' {
+        Split
+    } else {
+        Join(letter.wrapping_sub(b'0') as usize)
+    }
+}
+
+fn steps_of(alloc: Global, text: &str) -> Result<Vec<Step>, NoMemory> {
+    let mut steps = Vec::new(alloc);
+    for letter in text.as_bytes() {
+        steps.push(step_of(*letter))?;
+    }
+    Ok(steps)
+}
 
 /// One step, and whether the pile that was then taken, if any, was lawful.
 fn follow<R: Wait>(
@@ -101,10 +99,9 @@ fn after<R: Wait>(
     Ok(Some((lock.close(first).height, all_lawful)))
 }
 
-#[test]
-fn seats_come_back_in_every_order(rt: HostRuntime) -> Result<(), Fail> {
-    for order in &ORDERS {
-        assert_eq!(rt; after(&rt, rt.alloc(), 3, order)?, Some((3, true)));
-    }
-    Ok(())
+/// How high a pile is that may be three high, and whether each seat found it lawful, after steps in which all seats come back.
+pub fn seats<R: Wait>(rt: &R, alloc: Global, text: &str) -> Result<String, Fail> {
+    let steps = steps_of(alloc, text)?;
+    let pile = after(rt, alloc, 3, &steps)?;
+    Ok(format!(in alloc; "{pile:?}")?)
 }

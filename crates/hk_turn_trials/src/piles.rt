@@ -134,30 +134,30 @@ fn pile_up<R: Threads + Wait + Sync>(
     Ok((lock.close(first), all_lawful))
 }
 
-#[test]
-fn each_turn_finds_the_last_ones_pile(rt: HostRuntime) -> Result<(), Fail> {
-    for workers in [1, 2, 4, 16] {
-        let (pile, all_lawful) = pile_up(&rt, rt.alloc(), workers, 200_000, 10_000)?;
-        assert!(rt; all_lawful);
-        assert_eq!(rt; pile.height, 10_000 * workers as u64);
-    }
-    Ok(())
+/// How high the pile is after so many workers raised it ten thousand times each, and whether each always found it lawful.
+pub fn piled<R: Threads + Wait + Sync>(
+    rt: &R,
+    alloc: Global,
+    workers: usize,
+) -> Result<String, Fail> {
+    let (pile, all_lawful) = pile_up(rt, alloc, workers, 200_000, 10_000)?;
+    Ok(format!(in alloc; "{}, {all_lawful}", pile.height)?)
 }
 
-#[test]
-fn a_lock_under_a_snapshot(rt: HostRuntime) -> Result<(), Fail> {
+/// How high a pile of two is that is raised once under a lock made under a snapshot.
+pub fn under_a_snapshot<R: Wait>(rt: &R, alloc: Global) -> Result<String, Fail> {
     let about = Snapshot::of(&3u64);
     let (lock, mut seat) = TurnLock::under(
-        rt.alloc(),
+        alloc,
         &about,
         Pile {
             height: 2,
             marks: 2,
         },
     )?;
-    let mut pile = lock.take(&rt, &mut seat);
+    let mut pile = lock.take(rt, &mut seat);
     pile.raise(3);
     lock.give_back(&mut seat, pile);
-    assert_eq!(rt; lock.close(seat).height, 3);
-    Ok(())
+    let height = lock.close(seat).height;
+    Ok(format!(in alloc; "{height}")?)
 }

@@ -205,27 +205,30 @@ fn pass_through<R: Threads + Wait + Sync>(
     )
 }
 
-#[test]
-fn each_number_comes_out_once(rt: HostRuntime) -> Result<(), Fail> {
-    for (places, pushers) in [(1, 1), (128, 4), (128, 8)] {
-        let amiss = pass_through(&rt, rt.alloc(), places, pushers, 40_000)?;
-        assert_eq!(rt; amiss, None, "{pushers} pushers, {places} places");
-    }
-    Ok(())
+/// The first of forty thousand numbers that didn't come once out of the queue.
+pub fn passed<R: Threads + Wait + Sync>(
+    rt: &R,
+    alloc: Global,
+    places: usize,
+    pushers: u32,
+) -> Result<String, Fail>
+    requires { (0 < places) × (0 < pushers) }
+{
+    let amiss = pass_through(rt, alloc, places, pushers, 40_000)?;
+    Ok(format!(in alloc; "{amiss:?}")?)
 }
 
 fn number_of(small: Option<Small>) -> Option<usize> {
     small.map(|small| small.number)
 }
 
-#[test]
-fn one_place_holds_one(rt: HostRuntime) -> Result<(), Fail> {
-    let (queue, mut pass) = Queue::new(rt.alloc(), 9usize, 1)?;
-    let first = queue.push(&rt, &mut pass, Small { number: 0 });
-    let second = queue.push(&rt, &mut pass, Small { number: 1 });
-    let third = queue.pop(&rt, &mut pass);
-    let fourth = queue.pop(&rt, &mut pass);
+/// Which numbers two pushes into a queue of one place give back, and then two pops.
+pub fn one_place<R: Wait>(rt: &R, alloc: Global) -> Result<String, Fail> {
+    let (queue, mut pass) = Queue::new(alloc, 9usize, 1)?;
+    let first = queue.push(rt, &mut pass, Small { number: 0 });
+    let second = queue.push(rt, &mut pass, Small { number: 1 });
+    let third = queue.pop(rt, &mut pass);
+    let fourth = queue.pop(rt, &mut pass);
     let seen = [first.err(), second.err(), third, fourth].map(number_of);
-    assert!(rt; seen == [None, Some(1), Some(0), None]);
-    Ok(())
+    Ok(format!(in alloc; "{seen:?}")?)
 }

@@ -1,5 +1,5 @@
 // What one worker takes from a desk and leaves there.
-ghost use Rattle.std.specs.Prelude.{◌≡◌, IfOk};
+ghost use Rattle.std.specs.Prelude.{◌≡◌, ◌<◌, IfOk};
 ghost use Rattle.hk_families.specs.Sample.{sample_shape};
 
 use crate::gates::Counter;
@@ -108,28 +108,32 @@ fn two_calls<R: Wait>(rt: &R, alloc: Global) -> Result<Seen, NoMemory> {
     })
 }
 
-#[test]
-fn a_worker_shares_what_it_finds(rt: HostRuntime) -> Result<(), Fail> {
-    let seen = two_calls(&rt, rt.alloc())?;
-    assert!(rt; seen.memory == [false, true]);
-    assert_eq!(rt; seen.enters_of_first, [0, 0, 0]);
-    assert!(rt; seen.is_empty && seen.none_ready);
-    assert_eq!(rt; seen.enters, seen.leaves);
-    let mut unpolled = [true; 3];
-    for item in seen.between {
-        if let Some(item) = item {
-            if item < 3 {
-                unpolled[item as usize] = false;
-            }
-        }
-    }
-    assert!(rt; seen.first_out.is_some());
-    for item in 0..3u32 {
-        let is_out = seen.first_out == Some(item);
-        assert!(rt; unpolled[item as usize] == is_out);
-        assert!(rt; (seen.enters[item as usize] == 0) == is_out);
-    }
-    Ok(())
+/// Whether an item was seen in the queue and polled afterwards, or is the one that is out and was never polled.
+fn fits(seen: &Seen, item: u32) -> bool
+    requires { item < 3 }
+{
+    let is_out = seen.first_out == Some(item);
+    let is_seen = seen.between[0] == Some(item) || seen.between[1] == Some(item);
+    let is_polled = seen.enters[item as usize] > 0;
+    is_seen != is_out && is_polled != is_out
+}
+
+fn each_fits(seen: &Seen) -> [bool; 3] {
+    [fits(seen, 0), fits(seen, 1), fits(seen, 2)]
+}
+
+/// Which of two calls of a worker had memory, how often the first polled each item, whether nothing is ready after the second,
+/// whether each poll was handed on, whether an item is out, and whether each item is that or was seen in the queue and polled.
+pub fn shared<R: Wait>(rt: &R, alloc: Global) -> Result<String, Fail> {
+    let seen = two_calls(rt, alloc)?;
+    let (memory, first) = (seen.memory, seen.enters_of_first);
+    let nothing = seen.is_empty && seen.none_ready;
+    let (handed, out, fit) = (
+        seen.enters == seen.leaves,
+        seen.first_out.is_some(),
+        each_fits(&seen),
+    );
+    Ok(format!(in alloc; "{memory:?}, {first:?}, {nothing}, {handed}, {out}, {fit:?}")?)
 }
 
 /// A run by four workers, each of which wants memory.
@@ -152,9 +156,9 @@ fn poor_rounds<R: Threads + Sync>(rt: &R, alloc: Global) -> Result<Results, NoMe
     run_rounds(rt, alloc, layout, kept, &poor, 4)
 }
 
-#[test]
-fn want_of_memory_is_answered(rt: HostRuntime) -> Result<(), Fail> {
-    assert!(rt; poor_pool(&rt, rt.alloc()).is_err());
-    assert!(rt; poor_rounds(&rt, rt.alloc()).is_err());
-    Ok(())
+/// Whether a pool and rounds want memory where each compiler does.
+pub fn want_of_memory<R: Threads + Wait + Sync>(rt: &R, alloc: Global) -> Result<String, Fail> {
+    let pool = poor_pool(rt, alloc).is_err();
+    let rounds = poor_rounds(rt, alloc).is_err();
+    Ok(format!(in alloc; "{pool}, {rounds}")?)
 }

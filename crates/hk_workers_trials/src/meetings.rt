@@ -32,16 +32,12 @@ fn pool<R: Threads + Wait + Sync>(
     run_pool(rt, alloc, layout, kept, &maker, 2, gate)
 }
 
-/// Compilers that save before they ask are polled three times each, and those that ask at once are polled once.
-#[test]
-fn two_polls_run_side_by_side(rt: HostRuntime) -> Result<(), Fail> {
-    for (early, polls) in [(true, 3), (false, 1)] {
-        let gate = Meeting::new();
-        let results = pool(&rt, rt.alloc(), early, &gate)?;
-        assert_eq!(rt; results.outcomes.len(), 2);
-        assert!(rt; gate.was_held());
-        assert_eq!(rt; gate.calls().enters(), [polls, polls, 0]);
-        assert_eq!(rt; gate.calls().leaves(), [polls, polls, 0]);
-    }
-    Ok(())
+/// How many outcomes there are, whether the first poll met one of the other item, and how often a poll of each item began and was
+/// handed on. Compilers that save before they ask are polled three times each, and those that ask at once are polled once.
+pub fn met<R: Threads + Wait + Sync>(rt: &R, alloc: Global, early: bool) -> Result<String, Fail> {
+    let gate = Meeting::new();
+    let count = pool(rt, alloc, early, &gate)?.outcomes.len();
+    let (held, calls) = (gate.was_held(), gate.calls());
+    let (enters, leaves) = (calls.enters(), calls.leaves());
+    Ok(format!(in alloc; "{count} outcomes, met {held}, began {enters:?}, handed on {leaves:?}")?)
 }

@@ -6,7 +6,7 @@ ghost use Rattle.hk_families.specs.Sample.{sample_shape};
 use hk_base::{NoMemory, Shared};
 use hk_chain::{Kept, Layout};
 use hk_families::{MutualMaker, SampleMaker};
-use hk_fix::{Outcome, Results};
+use hk_fix::{Compiler, Maker, Outcome, Results};
 use hk_outside::OpenGate;
 use hk_workers::{run_pool, run_rounds};
 use std::alloc::Global;
@@ -46,98 +46,128 @@ fn three_items(alloc: Global) -> Result<Layout, NoMemory>
     Layout::of_counts(alloc, &[1, 1, 1])
 }
 
-fn pool<R: Threads + Wait + Sync>(
+/// A run by several workers.
+fn pool<K: Maker + Sync, R: Threads + Wait + Sync>(
+    rt: &R,
+    alloc: Global,
+    layout: Layout,
+    maker: &K,
+    workers: u32,
+) -> Result<Results, NoMemory>
+where
+    K::M: Send,
+    <K::M as Compiler>::Common: Send,
+    requires layout { layout ≡ K.M.shape (K.common_is maker.now) }
+    requires workers { (0 < workers) × (workers ≤ 64) }
+{
+    let kept = Kept::none(alloc, &layout)?;
+    let layout = Shared::new(alloc, layout)?;
+    run_pool(rt, alloc, layout, kept, maker, workers, &OpenGate)
+}
+
+/// A run in rounds.
+fn in_rounds<K: Maker + Sync, R: Threads + Sync>(
+    rt: &R,
+    alloc: Global,
+    layout: Layout,
+    maker: &K,
+    workers: u32,
+) -> Result<Results, NoMemory>
+where
+    K::M: Send,
+    <K::M as Compiler>::Common: Send,
+    requires layout { layout ≡ K.M.shape (K.common_is maker.now) }
+    requires workers { (0 < workers) × (workers ≤ 64) }
+{
+    let kept = Kept::none(alloc, &layout)?;
+    let layout = Shared::new(alloc, layout)?;
+    run_rounds(rt, alloc, layout, kept, maker, workers)
+}
+
+fn mutual_pool<R: Threads + Wait + Sync>(
     rt: &R,
     alloc: Global,
     early: bool,
     workers: u32,
-) -> Result<Results, NoMemory>
+) -> Result<String, Fail>
     requires { (0 < workers) × (workers ≤ 64) }
 {
-    let layout = Shared::new(alloc, two_items(alloc)?)?;
-    let kept = Kept::none(alloc, layout.get())?;
-    let maker = MutualMaker { early };
-    run_pool(rt, alloc, layout, kept, &maker, workers, &OpenGate)
+    let results = pool(
+        rt,
+        alloc,
+        two_items(alloc)?,
+        &MutualMaker { early },
+        workers,
+    )?;
+    printed(alloc, &results)
 }
 
-fn pool_of_groups<R: Threads + Wait + Sync>(
-    rt: &R,
-    alloc: Global,
-    workers: u32,
-) -> Result<Results, NoMemory>
+fn group_pool<R: Threads + Wait + Sync>(rt: &R, alloc: Global, workers: u32) -> Result<String, Fail>
     requires { (0 < workers) × (workers ≤ 64) }
 {
-    let layout = Shared::new(alloc, three_items(alloc)?)?;
-    let kept = Kept::none(alloc, layout.get())?;
-    let maker = SampleMaker::new();
-    run_pool(rt, alloc, layout, kept, &maker, workers, &OpenGate)
+    let results = pool(rt, alloc, three_items(alloc)?, &SampleMaker::new(), workers)?;
+    printed(alloc, &results)
 }
 
-fn rounds<R: Threads + Sync>(
+fn mutual_rounds<R: Threads + Sync>(
     rt: &R,
     alloc: Global,
     early: bool,
     workers: u32,
-) -> Result<Results, NoMemory>
+) -> Result<String, Fail>
     requires { (0 < workers) × (workers ≤ 64) }
 {
-    let layout = Shared::new(alloc, two_items(alloc)?)?;
-    let kept = Kept::none(alloc, layout.get())?;
-    let maker = MutualMaker { early };
-    run_rounds(rt, alloc, layout, kept, &maker, workers)
+    let results = in_rounds(
+        rt,
+        alloc,
+        two_items(alloc)?,
+        &MutualMaker { early },
+        workers,
+    )?;
+    printed(alloc, &results)
 }
 
-fn rounds_of_groups<R: Threads + Sync>(
+fn group_rounds<R: Threads + Sync>(rt: &R, alloc: Global, workers: u32) -> Result<String, Fail>
+    requires { (0 < workers) × (workers ≤ 64) }
+{
+    let results = in_rounds(rt, alloc, three_items(alloc)?, &SampleMaker::new(), workers)?;
+    printed(alloc, &results)
+}
+
+/// A run of mutual loads that get through, one of such that don't, and one of groups.
+fn three_pools<R: Threads + Wait + Sync>(
     rt: &R,
     alloc: Global,
     workers: u32,
-) -> Result<Results, NoMemory>
+) -> Result<String, Fail>
     requires { (0 < workers) × (workers ≤ 64) }
 {
-    let layout = Shared::new(alloc, three_items(alloc)?)?;
-    let kept = Kept::none(alloc, layout.get())?;
-    let maker = SampleMaker::new();
-    run_rounds(rt, alloc, layout, kept, &maker, workers)
+    let through = mutual_pool(rt, alloc, true, workers)?;
+    let stuck = mutual_pool(rt, alloc, false, workers)?;
+    let groups = group_pool(rt, alloc, workers)?;
+    Ok(format!(in alloc; "{through} | {stuck} | {groups}")?)
 }
 
-#[test]
-fn any_number_of_workers_gives_the_same(rt: HostRuntime) -> Result<(), Fail> {
-    let alloc = rt.alloc();
-    for workers in [1, 2, 3, 16, 64] {
-        for _ in 0..20 {
-            let through = pool(&rt, alloc, true, workers)?;
-            assert_eq!(rt; printed(alloc, &through)?.as_str(), "done 1;done 1;xxxx 6");
-            let stuck = pool(&rt, alloc, false, workers)?;
-            assert_eq!(rt;
-                printed(alloc, &stuck)?.as_str(),
-                "waiting 1;waiting 1;---- 2"
-            );
-            let groups = pool_of_groups(&rt, alloc, workers)?;
-            assert_eq!(rt;
-                printed(alloc, &groups)?.as_str(),
-                "done 2;waiting 1;failed;xxx-x- 8"
-            );
+/// The same twenty times: each text that isn't the one before it.
+pub fn pools<R: Threads + Wait + Sync>(rt: &R, alloc: Global, workers: u32) -> Result<String, Fail>
+    requires { (0 < workers) × (workers ≤ 64) }
+{
+    let mut seen = String::new(alloc);
+    for _ in 0..20 {
+        let text = three_pools(rt, alloc, workers)?;
+        if text.as_str() != seen.as_str() {
+            seen.push_str(text.as_str())?;
         }
     }
-    Ok(())
+    Ok(seen)
 }
 
-#[test]
-fn rounds_give_the_same(rt: HostRuntime) -> Result<(), Fail> {
-    let alloc = rt.alloc();
-    for workers in [1, 2, 3, 16, 64] {
-        let through = rounds(&rt, alloc, true, workers)?;
-        assert_eq!(rt; printed(alloc, &through)?.as_str(), "done 1;done 1;xxxx 6");
-        let stuck = rounds(&rt, alloc, false, workers)?;
-        assert_eq!(rt;
-            printed(alloc, &stuck)?.as_str(),
-            "waiting 1;waiting 1;---- 2"
-        );
-        let groups = rounds_of_groups(&rt, alloc, workers)?;
-        assert_eq!(rt;
-            printed(alloc, &groups)?.as_str(),
-            "done 2;waiting 1;failed;xxx-x- 8"
-        );
-    }
-    Ok(())
+/// The three runs in rounds.
+pub fn rounds<R: Threads + Sync>(rt: &R, alloc: Global, workers: u32) -> Result<String, Fail>
+    requires { (0 < workers) × (workers ≤ 64) }
+{
+    let through = mutual_rounds(rt, alloc, true, workers)?;
+    let stuck = mutual_rounds(rt, alloc, false, workers)?;
+    let groups = group_rounds(rt, alloc, workers)?;
+    Ok(format!(in alloc; "{through} | {stuck} | {groups}")?)
 }
