@@ -108,6 +108,7 @@ fn usage_has_a_line_for_each_command(rt: HostRuntime) -> Result<(), Fail> {
         "       hakyll_cli deps\n",
         "       hakyll_cli clean\n",
         "       hakyll_cli gen NUMBER COUNT [--workers N]\n",
+        "       hakyll_cli links\n",
     ];
     let mut text = String::new(rt.alloc());
     for line in lines {
