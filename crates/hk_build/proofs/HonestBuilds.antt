@@ -17,7 +17,7 @@ use Rattle.hk_rules.specs.PlanView.{PlanView}
 use Rattle.hk_sites.proofs.CleanBuilds.{builds-clean}
 use Rattle.hk_sites.proofs.KeptItems.{plan-history}
 use Rattle.hk_sites.proofs.Lawful.{left-listed}
-use Rattle.hk_sites.proofs.SmallRules.{plans-limited}
+use Rattle.hk_sites.proofs.SmallLimits.{plans-limited}
 use Rattle.hk_sites.specs.PlanSite.{items_of}
 use Rattle.hk_sites.specs.Rebuilding as plans
 use Rattle.hk_sites.specs.Rebuilding.{IsCleanBuild, clean_entries, ends_by, list_by, pages_by, run_over}
@@ -68,8 +68,8 @@ module _ (old new : PlanView) (apart : AreApart old new) where
       record {
         was = planned-made old apart.was;
         now = planned-made new apart.now;
-        was_limited = plans-limited apart.was.text apart.was.rules apart.was.files old apart.was.read apart.was.made;
-        now_limited = plans-limited apart.now.text apart.now.rules apart.now.files new apart.now.read apart.now.made;
+        was_limited = plans-limited old (planned-made old apart.was).linked;
+        now_limited = plans-limited new (planned-made new apart.now).linked;
         short = apart.short;
         apart = apart.apart;
       }

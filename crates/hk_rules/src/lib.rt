@@ -20,7 +20,9 @@ mod targets;
 mod universe;
 
 pub use hk_forms::text_of_pattern;
-pub use hk_rules_file::{Rule, RuleSource, Rules, RulesFault, read_rules};
+pub use hk_rules_file::{
+    FeedKind, FeedRule, PageRule, Rule, RuleSource, Rules, RulesFault, TagRule, read_rules,
+};
 pub use plan::Plan;
 pub use plan_fault::PlanFault;
 pub use planning::make_plan;

@@ -63,6 +63,7 @@ pub fn make_plan(
         rules,
         contexts,
         patterns,
+        ..
     } = rules;
     let items = universe(alloc, rules, &sources)?;
     plan_items(alloc, Named { contexts, patterns }, items)

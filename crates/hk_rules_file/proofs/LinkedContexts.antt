@@ -6,12 +6,13 @@ use Rattle.std.proofs.lemmas.List.{map-append, length-map}
 use Rattle.toml.specs.Data.{Data, Members, no_members, member}
 use Rattle.hk_base.specs.Bytes.{Bytes}
 use Rattle.hk_base.specs.Ties.{bytes-same, bytes-self}
-use Rattle.hk_base.proofs.Both.{right-part, not-both}
+use Rattle.hk_base.proofs.Both.{left-part, right-part, not-both}
 use Rattle.hk_chain.specs.Context.{ContextView}
 use Rattle.hk_chain.specs.declared.context.Field.{Field}
 use Rattle.hk_pattern.specs.declared.pattern.Pattern.{Pattern}
 use Rattle.hk_rules_file.specs.ContextForm.{is_early, in_part, with_part, with_names, names_of, most_contexts, may_define, named, linked, context_of, push_context, one_context, next_context, part_of, default_context, second_part, contexts_in}
 use Rattle.hk_steps.specs.FieldForm.{context_fields}
+use Rattle.hk_rules_file.specs.ContextNames.{keys_in}
 use Rattle.hk_rules_file.specs.Linked.{name_of, context_names}
 use Rattle.hk_rules_file.specs.Linking.{link_fields, default_fields}
 use Rattle.hk_forms.specs.Names.{is_context_name}
@@ -24,10 +25,6 @@ use Rattle.hk_rules_file.proofs.LinkedSteps.{Holds}
 use Rattle.hk_rules_file.proofs.LinkedFields.{FieldsWithin, AreLinkedFields, IsReadyField, fields-ready, fields-more, default-within, link_fields-linked}
 
 -- ---- names
-
-abbrev pub keys_in : Members → List Bytes
-keys_in no_members = []
-keys_in (member name d ms) = name ∷ keys_in ms
 
 -- the names of one part
 abbrev pub part_names : Bool → Members → List Bytes
@@ -79,14 +76,14 @@ part-distinct early (member name d ms) h = elim (in_part early name) as (λ b. I
   | false ↦ part-distinct early ms h.1
 ]
 
-part-in : (early : Bool) (ms : Members) → AllByRecursion (λ name. in_part early name ≡ true) (part_names early ms)
+pub part-in : (early : Bool) (ms : Members) → AllByRecursion (λ name. in_part early name ≡ true) (part_names early ms)
 part-in early no_members = tt
 part-in early (member name d ms) = elim (in_part early name) as (λ b. in_part early name ≡ b → AllByRecursion (λ name. in_part early name ≡ true) (cond b (name ∷ part_names early ms) (part_names early ms))) [
   | true ↦ λ e. (e, part-in early ms)
   | false ↦ λ e. part-in early ms
 ] refl
 
-not-holds : (b : Bool) → not b ≡ true → b ≡ false
+pub not-holds : (b : Bool) → not b ≡ true → b ≡ false
 not-holds true e = sym e
 not-holds false e = refl
 
@@ -131,24 +128,31 @@ ContextsWithin contexts pool cs = AllByRecursion (λ context. FieldsWithin conte
 pub contexts-more : (c d : ℕ) (pool next : List Pattern) → c ≤ d → IsGrown pool next → (cs : List ContextView) → ContextsWithin c pool cs → ContextsWithin d next cs
 contexts-more c d pool next le g cs h = all-weaken (λ context. FieldsWithin c pool context.fields) (λ context. FieldsWithin d next context.fields) (λ context k. fields-more c d pool next le g context.fields k) cs h
 
+abbrev IsWritten : Bytes → Type 0
+IsWritten name = is_context_name name ≡ true
+
 -- the context of a name, and the patterns then
 record IsContext (names : List Bytes) (pool : List Pattern) (name : Bytes) (r : ContextView × List Pattern) : Type 0 where
   named : r.0.name ≡ name
   other : IsOther name
+  written : IsWritten name
   within : FieldsWithin (length names) r.1 r.0.fields
   grown : IsGrown pool r.1
 
-named-context : (names : List Bytes) (pool : List Pattern) (name : Bytes) (o : Option (List Field × List Pattern)) → IsOther name → Holds (AreLinkedFields (length names) pool) o → Holds (IsContext names pool name) (named name o)
-named-context names pool name None other h = tt
-named-context names pool name (Some r) other h = record { named = refl; other = other; within = h.within; grown = h.grown }
+named-context : (names : List Bytes) (pool : List Pattern) (name : Bytes) (o : Option (List Field × List Pattern)) → IsOther name → IsWritten name → Holds (AreLinkedFields (length names) pool) o → Holds (IsContext names pool name) (named name o)
+named-context names pool name None other written h = tt
+named-context names pool name (Some r) other written h = record { named = refl; other = other; written = written; within = h.within; grown = h.grown }
 
-linked-context : (names : List Bytes) (pool : List Pattern) (name : Bytes) (drafts : Option (List DraftField)) → IsOther name → Holds (AllByRecursion IsReadyField) drafts → Holds (IsContext names pool name) (linked names pool name drafts)
-linked-context names pool name None other h = tt
-linked-context names pool name (Some drafts) other h = named-context names pool name (link_fields names drafts pool []) other (link_fields-linked names drafts pool [] h tt)
+linked-context : (names : List Bytes) (pool : List Pattern) (name : Bytes) (drafts : Option (List DraftField)) → IsOther name → IsWritten name → Holds (AllByRecursion IsReadyField) drafts → Holds (IsContext names pool name) (linked names pool name drafts)
+linked-context names pool name None other written h = tt
+linked-context names pool name (Some drafts) other written h = named-context names pool name (link_fields names drafts pool []) other written (link_fields-linked names drafts pool [] h tt)
 
 context_of-context : (names : List Bytes) (room : ℕ) (pool : List Pattern) (name : Bytes) (d : Data) → Holds (IsContext names pool name) (context_of names room pool name d)
 context_of-context names room pool name d = elim (may_define room name) as (λ b. may_define room name ≡ b → Holds (IsContext names pool name) (cond b (linked names pool name (context_fields d)) None)) [
-  | true ↦ λ e. linked-context names pool name (context_fields d) (not-holds (bytes_eq name default_name) (right-part (nat_le 1 room && is_context_name name) (not (bytes_eq name default_name)) e)) (fields-ready d)
+  | true ↦ λ e.
+      let other = not-holds (bytes_eq name default_name) (right-part (nat_le 1 room && is_context_name name) (not (bytes_eq name default_name)) e) in
+      let written = right-part (nat_le 1 room) (is_context_name name) (left-part (nat_le 1 room && is_context_name name) (not (bytes_eq name default_name)) e) in
+      linked-context names pool name (context_fields d) other written (fields-ready d)
   | false ↦ λ e. tt
 ] refl
 
@@ -156,6 +160,7 @@ context_of-context names room pool name d = elim (may_define room name) as (λ b
 record IsPart (names : List Bytes) (pool : List Pattern) (done : List ContextView) (added : List Bytes) (r : List ContextView × List Pattern) : Type 0 where
   named : context_names r.0 ≡ context_names done ++ added
   others : AllByRecursion IsOther added
+  written : AllByRecursion IsWritten added
   within : ContextsWithin (length names) r.1 r.0
   grown : IsGrown pool r.1
 
@@ -168,6 +173,7 @@ part-more names pool done name added c k (Ok r) h =
     record {
       named = h.named ∙ ap (λ ns. ns ++ added) (map-append name_of done (c.0 ∷ [])) ∙ append_assoc (context_names done) (name_of c.0 ∷ []) added ∙ ap (λ n. context_names done ++ n ∷ added) k.named;
       others = (k.other, h.others);
+      written = (k.written, h.written);
       within = h.within;
       grown = grown-more pool c.1 r.1 k.grown h.grown;
     }
@@ -179,7 +185,7 @@ part-next names pool done name added rest later h (Some c) k =
     (later c.1 (done ++ c.0 ∷ []) (all-push (λ context. FieldsWithin (length names) c.1 context.fields) done c.0 (contexts-more (length names) (length names) pool c.1 (omega arith) k.grown done h) k.within))
 
 part_of-part : (early : Bool) (names : List Bytes) (ms : Members) (room : ℕ) (pool : List Pattern) (done : List ContextView) → ContextsWithin (length names) pool done → IfOk (part_of early names ms room pool done) (IsPart names pool done (part_names early ms))
-part_of-part early names no_members room pool done h = record { named = sym (append-nil (context_names done)); others = tt; within = h; grown = grown-same pool }
+part_of-part early names no_members room pool done h = record { named = sym (append-nil (context_names done)); others = tt; written = tt; within = h; grown = grown-same pool }
 part_of-part early names (member name d ms) room pool done h =
     elim (in_part early name) as (λ b. IfOk (next_context (part_of early names ms (room - 1)) (one_context b names room pool done name d)) (IsPart names pool done (cond b (name ∷ part_names early ms) (part_names early ms)))) [
       | true ↦ part-next names pool done name (part_names early ms) (part_of early names ms (room - 1)) (λ q cs k. part_of-part early names ms (room - 1) q cs k) h (context_of names room pool name d) (context_of-context names room pool name d)
@@ -191,6 +197,7 @@ pub record AreContexts (names : List Bytes) (ms : Members) (r : List ContextView
   pub named : context_names r.0 ≡ all_names ms
   pub early : AllByRecursion IsOther (part_names true ms)
   pub late : AllByRecursion IsOther (part_names false ms)
+  pub written : AllByRecursion (λ name. is_context_name name ≡ true) (context_names r.0)
   pub within : AllByRecursion (λ context. FieldsWithin (length names) r.1 context.fields) r.0
   pub texts : IsDistinct bytes_eq (texts_of r.1)
 
@@ -198,10 +205,13 @@ second-contexts : (names : List Bytes) (ms : Members) (first : List ContextView 
 unfolding IsDistinct
 second-contexts names ms first h (Err fault) k = tt
 second-contexts names ms first h (Ok r) k =
+    let named : context_names r.0 ≡ all_names ms =
+    k.named ∙ ap (λ ns. ns ++ part_names false ms) (map-append name_of first.0 (default_context ∷ [])) ∙ append_assoc (context_names first.0) (default_name ∷ []) (part_names false ms) ∙ ap (λ ns. ns ++ default_name ∷ part_names false ms) h.named in
     record {
-      named = k.named ∙ ap (λ ns. ns ++ part_names false ms) (map-append name_of first.0 (default_context ∷ [])) ∙ append_assoc (context_names first.0) (default_name ∷ []) (part_names false ms) ∙ ap (λ ns. ns ++ default_name ∷ part_names false ms) h.named;
+      named = named;
       early = h.others;
       late = k.others;
+      written = subst (AllByRecursion IsWritten) (sym named) (all-append IsWritten (part_names true ms) (default_name ∷ part_names false ms) h.written (refl, k.written));
       within = k.within;
       texts = k.grown.apart (h.grown.apart tt);
     }

@@ -1,17 +1,18 @@
 -- Fields that are read have numbers in range, and dates' patterns of their form.
 use Rattle.std.proofs.Common.{◌≡◌, ℕ, ◌<◌, ◌≤◌, Bool, true, false, cond, ◌&&◌, List, [], ◌∷◌, ◌++◌, length, Option, Some, None, IfSome, refl, arith, ℤ, pos, negsuc}
-use Rattle.std.specs.Prelude.{bytes_eq, codes, nat_le, option_and_then}
+use Rattle.std.specs.Prelude.{bytes_eq, codes, nat_le, option_map, option_and_then}
 use Rattle.std.specs.List.{AllByRecursion}
 use borrow.Author.Tests.{leb-true}
 use Rattle.toml.specs.Data.{Data, Items, Members, as_str, as_array, as_table, as_bool, as_integer, get_member}
 use Rattle.hk_base.specs.Bytes.{Bytes}
-use Rattle.hk_base.proofs.Both.{left-part}
+use Rattle.hk_base.proofs.Both.{left-part, right-part}
 use Rattle.hk_chain.specs.declared.context.Field.{Field}
 use Rattle.hk_chain.specs.declared.context.Field.TheVariants.{Body, Metadata, Url, Path, Title, Const, Date, Bool as BoolField, Teaser, List as ListField}
 use Rattle.hk_chain.specs.declared.context.Order.{Order}
+use Rattle.hk_chain.specs.declared.context.Order.TheVariants.{Id}
 use Rattle.hk_pattern.specs.declared.pattern.Pattern.{Pattern}
-use Rattle.hk_steps.specs.FieldForm.{word_field, const_by, date_by, flag_by, teaser_by, key_by, date_pattern_by, paired, keyed_by, limit_in, limit_or_none, snapshot_or_final, order_or_id, several, list_in, list_by, list_of, is_list_key, in_table, table_by, field_by, field_of, width, most_fields, not_wide, fits_context, fields_by, fields_at, context_fields}
-use Rattle.hk_rules_file.specs.Linked.{IsLinkedField}
+use Rattle.hk_steps.specs.FieldForm.{word_field, const_by, date_by, flag_by, teaser_by, key_by, date_pattern_by, paired, keyed_by, count_by, count_of, limit_or_none, snapshot_or_final, order_or, several, list_in, list_by, list_of, is_list_key, in_table, table_by, field_by, field_of, width, most_fields, not_wide, fits_context, fields_by, fields_at, context_fields}
+use Rattle.hk_rules_file.specs.Linked.{IsCount, IsLinkedField}
 use Rattle.hk_rules_file.specs.Linking.{default_fields, list_field, link_field, link_fields, next_field}
 use Rattle.hk_meta.specs.DatePattern.{pattern_ok}
 use Rattle.hk_forms.specs.Members.{each, fits, only, two, count_items, keys_pass}
@@ -31,7 +32,7 @@ IsPlainField (ListField key of snapshot order limit context) = ⊥
 IsPlainField _ = Unit {0}
 
 abbrev IsLimit : Option ℕ → Type 0
-IsLimit limit = IfSome limit (λ most. 1 ≤ most)
+IsLimit limit = IfSome limit IsCount
 
 abbrev pub IsReadyField : DraftField → Type 0
 IsReadyField Default = Unit {0}
@@ -85,17 +86,25 @@ keyed_by-ready : (word : Bytes) (p : Option (Data × Data)) → Holds IsReadyFie
 keyed_by-ready word None = tt
 keyed_by-ready word (Some p) = paired-ready word p
 
-limit_in-low : (z : Option ℤ) → Holds IsLimit (limit_in z)
-limit_in-low None = tt
-limit_in-low (Some (negsuc n)) = tt
-limit_in-low (Some (pos n)) = elim (nat_le 1 n && nat_le n 65535) as (λ b. (nat_le 1 n && nat_le n 65535) ≡ b → Holds IsLimit (cond b (Some (Some n)) None)) [
-  | true ↦ λ e. leb-true 1 n (left-part (nat_le 1 n) (nat_le n 65535) e)
+count_by-within : (z : Option ℤ) → Holds IsCount (count_by z)
+count_by-within None = tt
+count_by-within (Some (negsuc n)) = tt
+count_by-within (Some (pos n)) = elim (nat_le 1 n && nat_le n 65535) as (λ b. (nat_le 1 n && nat_le n 65535) ≡ b → Holds IsCount (cond b (Some n) None)) [
+  | true ↦ λ e. (leb-true 1 n (left-part (nat_le 1 n) (nat_le n 65535) e), leb-true n 65535 (right-part (nat_le 1 n) (nat_le n 65535) e))
   | false ↦ λ e. tt
 ] refl
 
+-- a count that is read
+pub count-within : (d : Data) → Holds IsCount (count_of d)
+count-within d = count_by-within (as_integer d)
+
+limit-of-count : (o : Option ℕ) → Holds IsCount o → Holds IsLimit (option_map Some o)
+limit-of-count None h = tt
+limit-of-count (Some count) h = h
+
 limit-low : (d : Option Data) → Holds IsLimit (limit_or_none d)
 limit-low None = tt
-limit-low (Some d) = limit_in-low (as_integer d)
+limit-low (Some d) = limit-of-count (count_of d) (count-within d)
 
 several-ready : (key : Option Bytes) (of : Option Pattern) (snapshot : Option Bytes) (order : Option Order) (limit : Option (Option ℕ)) (context : Option Bytes) → Holds IsLimit limit → Holds IsReadyField (several key of snapshot order limit context)
 several-ready None of snapshot order limit context h = tt
@@ -109,7 +118,7 @@ several-ready (Some key) (Some of) (Some snapshot) (Some order) (Some limit) (So
 list_by-ready : (fits : Bool) (ms : Members) → Holds IsReadyField (list_by fits ms)
 unfolding list_in
 list_by-ready false ms = tt
-list_by-ready true ms = several-ready (key_by (option_and_then as_str (get_member (codes "list") ms))) (option_and_then pattern_of (get_member (codes "of") ms)) (snapshot_or_final (get_member (codes "snapshot") ms)) (order_or_id (get_member (codes "order") ms)) (limit_or_none (get_member (codes "limit") ms)) (context_by (option_and_then as_str (get_member (codes "context") ms))) (limit-low (get_member (codes "limit") ms))
+list_by-ready true ms = several-ready (key_by (option_and_then as_str (get_member (codes "list") ms))) (option_and_then pattern_of (get_member (codes "of") ms)) (snapshot_or_final (get_member (codes "snapshot") ms)) (order_or Id (get_member (codes "order") ms)) (limit_or_none (get_member (codes "limit") ms)) (context_by (option_and_then as_str (get_member (codes "context") ms))) (limit-low (get_member (codes "limit") ms))
 
 in_table-ready : (one : Option (Bytes × Data)) (ms : Members) → Holds IsReadyField (in_table one ms)
 unfolding list_of

@@ -59,7 +59,7 @@ some-routed : (route : Option Route) → Holds (λ by. has_bytes by ≡ true) ro
 some-routed None h = tt
 some-routed (Some route) h = h
 
-routed : (d : Option Data) → Holds IsRouted (optional route_of d)
+pub routed : (d : Option Data) → Holds IsRouted (optional route_of d)
 routed None = tt
 routed (Some d) = some-routed (route_of d) (route-bytes d)
 
@@ -73,46 +73,57 @@ draft_in-ready n ms =
 pub chain-more : (c d p q : ℕ) → c ≤ d → p ≤ q → (steps : List Step) → IsLinkedChain c p steps → IsLinkedChain d q steps
 chain-more c d p q le lq steps h = record { short = h.short; within = all-weaken (IsStepWithin c p) (IsStepWithin d q) (within-more c d p q le lq) steps h.within; names = h.names; saved = h.saved }
 
+-- a chain, and the patterns then
+pub record IsChain (names : List Bytes) (pool : List Pattern) (r : List Step × List Pattern) : Type 0 where
+  pub linked : IsLinkedChain (length names) (length r.1) r.0
+  pub grown : IsGrown pool r.1
+
+chain-by : (names : List Bytes) (pool : List Pattern) (drafts : List DraftStep) → length drafts ≤ 64 → (r : Result (List Step × List Pattern) RulesFault) → IfOk r (λ x. length x.0 ≡ 0 + length drafts) → IfOk r (AreLinkedSteps names pool) → IfOk r (IsChain names pool)
+chain-by names pool drafts short (Err fault) long h = tt
+chain-by names pool drafts short (Ok r) long h =
+    record {
+      linked = record { short = omega (arith, long); within = h.within; names = distinct-push bytes_eq _ final_name h.saves.apart (all-weaken (λ name. is_snapshot_name name ≡ true) (λ name. bytes_eq name final_name ≡ false) not-final _ h.saves.named); saved = h.saves.named };
+      grown = h.grown;
+    }
+
+pub chain-linked : (n : ℕ) (names : List Bytes) (pool : List Pattern) (drafts : List DraftStep) → length drafts ≤ 64 → AllByRecursion IsReady drafts → IfOk (link_steps n names drafts pool []) (IsChain names pool)
+chain-linked n names pool drafts short ready = chain-by names pool drafts short (link_steps n names drafts pool []) (link_steps-length n names drafts pool []) (link_steps-linked n names drafts pool [] ready (tt, no-saves))
+
 -- a rule, and the patterns then
 record IsLinkedRule (names : List Bytes) (pool : List Pattern) (r : Rule × List Pattern) : Type 0 where
   chain : IsLinkedChain (length names) (length r.1) r.0.chain
   route : IsRouted r.0.route
   grown : IsGrown pool r.1
 
-finished-linked : (names : List Bytes) (pool : List Pattern) (draft : DraftRule) → length draft.steps ≤ 64 → IsRouted draft.route → (r : Result (List Step × List Pattern) RulesFault) → IfOk r (λ x. length x.0 ≡ 0 + length draft.steps) → IfOk r (AreLinkedSteps names pool) → IfOk (finished draft r) (IsLinkedRule names pool)
-finished-linked names pool draft short to (Err fault) long h = tt
-finished-linked names pool draft short to (Ok r) long h =
-    record {
-      chain = record { short = omega (arith, long); within = h.within; names = distinct-push bytes_eq _ final_name h.saves.apart (all-weaken (λ name. is_snapshot_name name ≡ true) (λ name. bytes_eq name final_name ≡ false) not-final _ h.saves.named); saved = h.saves.named };
-      route = to;
-      grown = h.grown;
-    }
+finished-linked : (names : List Bytes) (pool : List Pattern) (draft : DraftRule) → IsRouted draft.route → (r : Result (List Step × List Pattern) RulesFault) → IfOk r (IsChain names pool) → IfOk (finished draft r) (IsLinkedRule names pool)
+finished-linked names pool draft to (Err fault) h = tt
+finished-linked names pool draft to (Ok r) h = record { chain = h.linked; route = to; grown = h.grown }
 
 numbered-linked : (n : ℕ) (names : List Bytes) (pool : List Pattern) (r : Result DraftRule RulesFault) → IfOk r IsReadyRule → IfOk (numbered_rule n names pool r) (IsLinkedRule names pool)
 numbered-linked n names pool (Err fault) h = tt
-numbered-linked n names pool (Ok draft) h = finished-linked names pool draft h.short h.route (link_steps n names draft.steps pool []) (link_steps-length n names draft.steps pool []) (link_steps-linked n names draft.steps pool [] h.steps (tt, no-saves))
+numbered-linked n names pool (Ok draft) h = finished-linked names pool draft h.route (link_steps n names draft.steps pool []) (chain-linked n names pool draft.steps h.short h.steps)
 
 rule-linked : (n : ℕ) (names : List Bytes) (pool : List Pattern) (ms : Option Members) → IfOk (rule_by n names pool ms) (IsLinkedRule names pool)
 rule-linked n names pool None = tt
 rule-linked n names pool (Some ms) = numbered-linked n names pool (draft_in n ms) (draft_in-ready n ms)
 
-abbrev RulesWithin : ℕ → List Pattern → List Rule → Type 0
+abbrev pub RulesWithin : ℕ → List Pattern → List Rule → Type 0
 RulesWithin contexts pool rules = AllByRecursion (λ rule. IsLinkedChain contexts (length pool) rule.chain) rules
 
-rules-more : (c d : ℕ) (pool next : List Pattern) → c ≤ d → IsGrown pool next → (rules : List Rule) → RulesWithin c pool rules → RulesWithin d next rules
+pub rules-more : (c d : ℕ) (pool next : List Pattern) → c ≤ d → IsGrown pool next → (rules : List Rule) → RulesWithin c pool rules → RulesWithin d next rules
 rules-more c d pool next le g rules h = all-weaken (λ rule. IsLinkedChain c (length pool) rule.chain) (λ rule. IsLinkedChain d (length next) rule.chain) (λ rule k. chain-more c d (length pool) (length next) le g.long rule.chain k) rules h
 
-abbrev Routed : Rule → Type 0
+abbrev pub Routed : Rule → Type 0
 Routed rule = IsRouted rule.route
 
 abbrev Done : List Bytes → List Pattern → List Rule → Type 0
 Done names pool done = RulesWithin (length names) pool done × AllByRecursion Routed done
 
 -- rules after those that are done, and the patterns then
-record AreLinkedRules (names : List Bytes) (pool : List Pattern) (r : List Rule × List Pattern) : Type 0 where
-  within : RulesWithin (length names) r.1 r.0
-  routes : AllByRecursion Routed r.0
-  grown : IsGrown pool r.1
+pub record AreLinkedRules (names : List Bytes) (pool : List Pattern) (r : List Rule × List Pattern) : Type 0 where
+  pub within : RulesWithin (length names) r.1 r.0
+  pub routes : AllByRecursion Routed r.0
+  pub grown : IsGrown pool r.1
 
 rules-grown : (names : List Bytes) (pool next : List Pattern) → IsGrown pool next → (r : Result (List Rule × List Pattern) RulesFault) → IfOk r (AreLinkedRules names next) → IfOk r (AreLinkedRules names pool)
 rules-grown names pool next g (Err fault) h = tt
@@ -125,53 +136,7 @@ rules-next names pool done rest later h (Ok r) k =
     rules-grown names pool r.1 k.grown (rest r.1 (done ++ r.0 ∷ []))
     (later r.1 (done ++ r.0 ∷ []) (all-push (λ rule. IsLinkedChain (length names) (length r.1) rule.chain) done r.0 old k.chain, all-push Routed done r.0 h.1 k.route))
 
-rules_from-linked : (names : List Bytes) (ds : Items) (n : ℕ) (pool : List Pattern) (done : List Rule) → Done names pool done → IfOk (rules_from names ds n pool done) (AreLinkedRules names pool)
+pub rules_from-linked : (names : List Bytes) (ds : Items) (n : ℕ) (pool : List Pattern) (done : List Rule) → Done names pool done → IfOk (rules_from names ds n pool done) (AreLinkedRules names pool)
 rules_from-linked names no_items n pool done h = record { within = h.0; routes = h.1; grown = grown-same pool }
 rules_from-linked names (item d ds) n pool done h =
     rules-next names pool done (rules_from names ds (n + 1)) (λ q r k. rules_from-linked names ds (n + 1) q r k) h (rule_by n names pool (as_table d)) (rule-linked n names pool (as_table d))
-
--- ---- whole rules
-
-whole-linked : (ms : Members) → IsDistinct bytes_eq (keys_in ms) → (c : List ContextView × List Pattern) → AreContexts (names_of ms) ms c → (r : Result (List Rule × List Pattern) RulesFault) → IfOk r (AreLinkedRules (names_of ms) c.1) → IfOk (whole c.0 r) IsLinked
-whole-linked ms d c h (Err fault) k = tt
-whole-linked ms d c h (Ok r) k =
-    let many = contexts-many ms c h in
-    record {
-      routes = k.routes;
-      chains = rules-more (length (names_of ms)) (length c.0) r.1 r.1 many (grown-same r.1) r.0 k.within;
-      named = record {
-        within = contexts-more (length (names_of ms)) (length c.0) c.1 r.1 many k.grown c.0 h.within;
-        names = contexts-distinct (names_of ms) ms c d h;
-        texts = k.grown.apart h.texts;
-      };
-    }
-
-after-linked : (ms : Members) (ds : Items) → IsDistinct bytes_eq (keys_in ms) → (r : Result (List ContextView × List Pattern) RulesFault) → IfOk r (AreContexts (names_of ms) ms) → IfOk (after_contexts (names_of ms) ds r) IsLinked
-after-linked ms ds d (Err fault) h = tt
-after-linked ms ds d (Ok c) h = whole-linked ms d c h (rules_from (names_of ms) ds 1 c.1 []) (rules_from-linked (names_of ms) ds 1 c.1 [] (tt, tt))
-
--- what is read of a table in which no key stands twice, and of an array
-parts_in-linked : (ms : Members) (ds : Items) → IsDistinct bytes_eq (keys_in ms) → IfOk (parts_in ms ds) IsLinked
-parts_in-linked ms ds d = after-linked ms ds d (contexts_in (names_of ms) ms) (contexts_in-contexts (names_of ms) ms)
-
-abbrev Entry : Type 0
-Entry = String Global × Value
-
-keys-differ : (k : String Global) (es : List Entry) → AllByRecursion (λ y. string_cmp k y ≡ Less) (keys_of es) → AllByRecursion (λ y. bytes_eq (string_bytes k) y ≡ false) (keys_in (members_view es))
-keys-differ k [] h = tt
-keys-differ k (e ∷ es) h = (sym (is_eq-slice_cmp (string_bytes k) (string_bytes e.0)) ∙ ap is_eq h.0, keys-differ k es h.1)
-
-keys-distinct : (es : List Entry) → IsStrictlySortedBy string_cmp (keys_of es) → IsDistinct bytes_eq (keys_in (members_view es))
-unfolding IsDistinct IsStrictlySortedBy
-keys-distinct [] h = tt
-keys-distinct (e ∷ es) h = (keys-differ e.0 es h.0, keys-distinct es h.1)
-
-answer-linked : (wanted : Result RulesView RulesFault) (r : Result RulesView (Refusal RulesFault)) → Answers wanted r → IfOk wanted IsLinked → IfOk r IsLinked
-answer-linked wanted (Ok rules) is h = subst (λ w. IfOk w IsLinked) is h
-answer-linked wanted (Err fault) is h = tt
-
--- what is read of a table and of an array is linked
-pub parts-linked : (m : BTreeMap (String Global) Value) (ds : Items) (names : List Bytes) (r : Result RulesView (Refusal RulesFault)) → IsOrdered string_cmp m → names ≡ names_of (table_view m) → Answers (after_contexts names ds (contexts_in names (table_view m))) r → IfOk r IsLinked
-parts-linked m ds names r ordered are is =
-    answer-linked (parts_in (table_view m) ds) r (subst (λ ns. Answers (after_contexts ns ds (contexts_in ns (table_view m))) r) are is)
-    (parts_in-linked (table_view m) ds (keys-distinct m.entries ordered))

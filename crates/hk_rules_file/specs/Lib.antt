@@ -1,8 +1,15 @@
 pub mod ContextForm
+pub mod ContextNames
+pub mod FeedForm
 pub mod Linked
 pub mod Linking
 pub mod Numbering
+pub mod Numbers
+pub mod PagesForm
+pub mod RuleFaults
 pub mod RuleForm
 pub mod Rules
 pub mod RulesForm
 pub mod Saves
+pub mod TableForm
+pub mod TagsForm

@@ -7,7 +7,7 @@ use Rattle.hk_chain.specs.declared.chain.Step.{Step}
 use Rattle.hk_chain.specs.declared.chain.Step.TheVariants.{Concat, Apply, SelfApply}
 use Rattle.hk_chain.specs.declared.context.Field.{Field}
 use Rattle.hk_chain.specs.declared.context.Field.TheVariants.{Date, List as ListField}
-use Rattle.hk_forms.specs.Names.{is_snapshot_name}
+use Rattle.hk_forms.specs.Names.{is_context_name, is_snapshot_name}
 use Rattle.hk_meta.specs.DatePattern.{pattern_ok}
 use Rattle.hk_pattern.specs.declared.pattern.Pattern.{Pattern}
 use Rattle.hk_route.specs.declared.route.Route.{Route, fold-Route}
@@ -16,6 +16,8 @@ use Rattle.hk_rules_file.specs.Numbering.{texts_of}
 use Rattle.hk_rules_file.specs.Rules.{RulesView}
 use Rattle.hk_rules_file.specs.Saves.{saves, page_names}
 use Rattle.hk_rules_file.specs.declared.rules.Rule.{Rule}
+use Rattle.hk_rules_file.specs.declared.tables.PageRule.{PageRule}
+use Rattle.hk_rules_file.specs.declared.tables.TagRule.{TagRule}
 
 -- the numbers in a step are below those of the contexts and of the patterns
 abbrev pub IsStepWithin : ℕ → ℕ → Step → Type 0
@@ -24,10 +26,14 @@ IsStepWithin contexts patterns (Apply id context) = context < contexts
 IsStepWithin contexts patterns (SelfApply context) = context < contexts
 IsStepWithin contexts patterns _ = Unit {0}
 
--- and those in a field; a limit is 1 at least, and a date's pattern is one to print by
+-- a count of items
+abbrev pub IsCount : ℕ → Type 0
+IsCount count = (1 ≤ count) × (count ≤ 65535)
+
+-- and those in a field; a limit is a count, and a date's pattern is one to print by
 abbrev pub IsLinkedField : ℕ → ℕ → Field → Type 0
 IsLinkedField contexts patterns (Date key pattern) = pattern_ok pattern ≡ true
-IsLinkedField contexts patterns (ListField key of snapshot order limit context) = (of < patterns) × (context < contexts) × IfSome limit (λ most. 1 ≤ most)
+IsLinkedField contexts patterns (ListField key of snapshot order limit context) = (of < patterns) × (context < contexts) × IfSome limit IsCount
 IsLinkedField contexts patterns _ = Unit {0}
 
 -- a chain has 64 steps at most, its numbers are in range, its pages' names differ, and those that it saves under are names
@@ -75,3 +81,25 @@ pub record IsLinked (rules : RulesView) : Type 0 where
   pub chains : AllByRecursion (λ rule. IsLinkedChain (length rules.contexts) (length rules.patterns) rule.chain) rules.rules
   pub named : AreLinked rules.contexts rules.patterns
   pub routes : AllByRecursion (λ rule. IsRouted rule.route) rules.rules
+
+-- ---- tables
+
+-- a table's chain is linked, its contexts are in range, and its route replaces no empty text
+pub record IsLinkedTable (contexts patterns : ℕ) (chain : List Step) (route : Option Route) (context item : ℕ) : Type 0 where
+  pub linked : IsLinkedChain contexts patterns chain
+  pub routed : IsRouted route
+  pub behind : context < contexts
+  pub listed : item < contexts
+
+abbrev pub AreTagsLinked : ℕ → ℕ → TagRule → Type 0
+AreTagsLinked contexts patterns tags = IsLinkedTable contexts patterns tags.chain tags.route tags.context tags.item
+
+abbrev pub ArePagesLinked : ℕ → ℕ → PageRule → Type 0
+ArePagesLinked contexts patterns pages = IsLinkedTable contexts patterns pages.chain pages.route pages.context pages.item × IsCount pages.per
+
+-- the numbers in tables are in range, a count of items is 1 at least, and each context has the name of one
+pub record HasLinkedTables (rules : RulesView) : Type 0 where
+  pub tags : AllByRecursion (AreTagsLinked (length rules.contexts) (length rules.patterns)) rules.tags
+  pub pages : AllByRecursion (ArePagesLinked (length rules.contexts) (length rules.patterns)) rules.pages
+  pub feeds : AllByRecursion (λ feed. IsCount feed.limit) rules.feeds
+  pub written : AllByRecursion (λ name. is_context_name name ≡ true) (context_names rules.contexts)

@@ -18,4 +18,10 @@ pub enum RulesFault {
     DoubleSnapshot { number: u32, name: Text },
     /// The rule names a context that there is not.
     UnknownContext { number: u32, name: Text },
+    /// The `tags` table of this number, from 1, has another form at the key `word`.
+    BadTags { number: u32, word: Text },
+    /// The `paginate` table of this number, from 1, has another form at the key `word`.
+    BadPaginate { number: u32, word: Text },
+    /// The `feed` table of this number, from 1, has another form at the key `word`.
+    BadFeed { number: u32, word: Text },
 }

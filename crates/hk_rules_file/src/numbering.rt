@@ -13,9 +13,9 @@ use std::alloc::Global;
 use std::collections::BTreeMap;
 use std::marker::Model;
 
-/// Patterns by number. No two have the same text.
+/// Patterns by number. No two have the same text. In contracts it is their list.
 #[derive(Drop)]
-pub(crate) struct Pool {
+pub struct Pool {
     patterns: Vec<Pattern>,
     numbers: BTreeMap<Text, u32>,
 }
@@ -41,7 +41,8 @@ impl Model for Pool {
 }
 
 impl Pool {
-    pub(crate) fn new(alloc: Global) -> Pool
+    /// No patterns. Constant.
+    pub fn new(alloc: Global) -> Pool
         ensures { result ≡ [] }
     {
         Pool {
@@ -50,18 +51,16 @@ impl Pool {
         }
     }
 
-    pub(crate) fn into_patterns(self) -> Vec<Pattern>
+    /// The patterns. Constant.
+    pub fn into_patterns(self) -> Vec<Pattern>
         ensures { result.items ≡ self }
     {
         self.patterns
     }
 
-    /// The number of a pattern, and the patterns with it. Linear in the pattern, logarithmic in the patterns.
-    pub(crate) fn number(
-        self,
-        alloc: Global,
-        pattern: Pattern,
-    ) -> Result<(PatternNo, Pool), NoMemory>
+    /// The number of a pattern, and the patterns with it: one whose text is there has the number of that one, and another
+    /// goes last. `NoMemory` only for want of memory. Linear in the pattern, logarithmic in the patterns.
+    pub fn number(self, alloc: Global, pattern: Pattern) -> Result<(PatternNo, Pool), NoMemory>
         ensures { IfOk result (λ r. (r.0, r.1) ≡ spec.numbered self pattern) }
     {
         let text = text_of_pattern(alloc, &pattern)?;

@@ -290,7 +290,11 @@ fn version_by(alloc: Global, value: Option<&Value>) -> Result<Option<Option<Text
     }
 }
 
-fn route_by(alloc: Global, value: Option<&Value>) -> Result<Option<Option<Route>>, NoMemory>
+/// The route that a value is, where there is one.
+pub(crate) fn route_by(
+    alloc: Global,
+    value: Option<&Value>,
+) -> Result<Option<Option<Route>>, NoMemory>
     ensures { IfOk result (λ o. o ≡ spec.optional routes.route_of (option_map (λ v. view v.now) value.entry)) }
 {
     let Some(value) = value else {

@@ -1,4 +1,5 @@
 // Rules, as they were read.
+use crate::tables::{FeedRule, PageRule, TagRule};
 use hk_base::{Identifier, Text};
 use hk_chain::{Chain, Context};
 use hk_pattern::{Items, Pattern};
@@ -25,7 +26,7 @@ pub struct Rule {
     pub chain: Chain,
 }
 
-/// Rules in the order of their file, with the contexts and the patterns that they name by number.
+/// Rules and tables in the order of their file, with the contexts and the patterns that they name by number.
 #[derive(Debug, Drop)]
 pub struct Rules {
     pub rules: Vec<Rule>,
@@ -33,6 +34,10 @@ pub struct Rules {
     pub contexts: Vec<Context>,
     /// By number; no two have the same text.
     pub patterns: Vec<Pattern>,
+    /// At most 64, and so of the next two.
+    pub tags: Vec<TagRule>,
+    pub pages: Vec<PageRule>,
+    pub feeds: Vec<FeedRule>,
 }
 
 impl Model for Rules {
@@ -45,5 +50,5 @@ impl Model for Rules {
 
     ghost coded = { Prim.hlevel (codes, pattern.the_row.coded, route.the_row.coded) };
 
-    ghost view = { λ r. record { rules = r.rules.items; contexts = r.contexts.items; patterns = r.patterns.items } };
+    ghost view = { λ r. record { rules = r.rules.items; contexts = r.contexts.items; patterns = r.patterns.items; tags = r.tags.items; pages = r.pages.items; feeds = r.feeds.items } };
 }

@@ -8,7 +8,7 @@ use Rattle.hk_chain.specs.declared.context.Field.TheVariants as fields
 use Rattle.hk_eval.specs.PlanTable.{table_of}
 use Rattle.hk_machine.specs.ChainDeed.{chain_deed}
 use Rattle.hk_machine.specs.PlanDeeds.{deeds_of}
-use Rattle.hk_rules_file.specs.Linked.{IsLinkedField}
+use Rattle.hk_rules_file.specs.Linked.{IsCount, IsLinkedField}
 use Rattle.hk_rules.proofs.RecipePatterns.{recipe-has}
 use Rattle.hk_rules.proofs.Recipes.{plan-recipe}
 use Rattle.hk_rules.specs.MadePlan.{IsMadePlan}
@@ -23,9 +23,9 @@ use Rattle.hk_sites.proofs.PlanSites.{inside}
 use Rattle.hk_sites.specs.PlanSite.{site_of}
 use Rattle.hk_sites.specs.Sizes.{IsSmallField, HasLimits, HasTexts}
 
-limit-fits : (limit : Option ℕ) → IfSome limit (λ most. 1 ≤ most) → IfSome limit Small → IsLimit limit
+limit-fits : (limit : Option ℕ) → IfSome limit IsCount → IfSome limit Small → IsLimit limit
 limit-fits None h s = tt
-limit-fits (Some most) h s = (h, s)
+limit-fits (Some most) h s = (h.0, s)
 
 module _ (plan : PlanView) (made : IsMadePlan plan) (limits : HasLimits plan) where
   abbrev IsOwn : Field → Type 0

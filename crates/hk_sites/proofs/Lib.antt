@@ -8,6 +8,5 @@ pub mod OwnPatterns
 pub mod PlanSites
 pub mod Runs
 pub mod ShaDigests
-pub mod SmallFields
-pub mod SmallRules
+pub mod SmallLimits
 pub mod Storables

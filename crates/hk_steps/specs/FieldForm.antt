@@ -1,5 +1,5 @@
 -- The form of a field, and of a whole context.
-use Rattle.std.specs.Prelude.{ℕ, ◌&&◌, ◌||◌, nat_le, ℤ, pos, Bool, true, false, List, Option, Some, None, option_and_then, codes, bytes_eq, if◌then◌else◌}
+use Rattle.std.specs.Prelude.{ℕ, ◌&&◌, ◌||◌, nat_le, ℤ, pos, Bool, true, false, List, Option, Some, None, option_map, option_and_then, codes, bytes_eq, if◌then◌else◌}
 use Rattle.toml.specs.Data.{Data, Items, Members, get_member, as_str, as_array, as_table, as_bool, as_integer}
 use Rattle.hk_base.specs.Bytes.{Bytes}
 use Rattle.hk_chain.specs.declared.context.Field.TheVariants.{Body, Metadata, Url, Path, Title, Const, Date, Bool as BoolField, Teaser}
@@ -88,17 +88,22 @@ order_named (Some word) =
     else None
 order_named None = None
 
-abbrev pub order_or_id : Option Data → Option Order
-order_or_id (Some d) = order_named (as_str d)
-order_or_id None = Some Id
+-- an order, or this one where none is given
+abbrev pub order_or : Order → Option Data → Option Order
+order_or usual (Some d) = order_named (as_str d)
+order_or usual None = Some usual
 
--- a limit is from 1 to 65,535
-abbrev pub limit_in : Option ℤ → Option (Option ℕ)
-limit_in (Some (pos n)) = if nat_le 1 n && nat_le n 65535 then Some (Some n) else None
-limit_in _ = None
+-- a count of items is from 1 to 65,535
+abbrev pub count_by : Option ℤ → Option ℕ
+count_by (Some (pos n)) = if nat_le 1 n && nat_le n 65535 then Some n else None
+count_by _ = None
 
+abbrev pub count_of : Data → Option ℕ
+count_of d = count_by (as_integer d)
+
+-- a limit is a count
 abbrev pub limit_or_none : Option Data → Option (Option ℕ)
-limit_or_none (Some d) = limit_in (as_integer d)
+limit_or_none (Some d) = option_map Some (count_of d)
 limit_or_none None = Some None
 
 abbrev pub several : Option Bytes → Option Pattern → Option Bytes → Option Order → Option (Option ℕ) → Option Bytes → Option DraftField
@@ -110,7 +115,7 @@ list_in ms =
     several (key_by (option_and_then as_str (get_member (codes "list") ms)))
     (option_and_then pattern_of (get_member (codes "of") ms))
     (snapshot_or_final (get_member (codes "snapshot") ms))
-    (order_or_id (get_member (codes "order") ms))
+    (order_or Id (get_member (codes "order") ms))
     (limit_or_none (get_member (codes "limit") ms))
     (context_by (option_and_then as_str (get_member (codes "context") ms)))
 

@@ -190,8 +190,8 @@ fn paired(
     Ok(None)
 }
 
-/// The text as the key of a field.
-pub(crate) fn key_by(alloc: Global, text: Option<&str>) -> Result<Option<Text>, NoMemory>
+/// The text as the key of a field. `NoMemory` only for want of memory. Linear.
+pub fn key_by(alloc: Global, text: Option<&str>) -> Result<Option<Text>, NoMemory>
     ensures { IfOk result (λ o. o ≡ spec.key_by (option_map (λ s. s.now) text.entry)) }
 {
     match text {
@@ -202,7 +202,8 @@ pub(crate) fn key_by(alloc: Global, text: Option<&str>) -> Result<Option<Text>, 
     }
 }
 
-fn copy_by(alloc: Global, text: Option<&str>) -> Result<Option<Text>, NoMemory>
+/// A text of its own. `NoMemory` only for want of memory. Linear.
+pub fn copy_by(alloc: Global, text: Option<&str>) -> Result<Option<Text>, NoMemory>
     ensures { IfOk result (λ o. o ≡ option_map (λ s. s.now) text.entry) }
 {
     match text {

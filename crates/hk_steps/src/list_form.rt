@@ -41,13 +41,14 @@ fn list_in(alloc: Global, table: &Table) -> Result<Option<DraftField>, NoMemory>
     let key = key_by(alloc, text_at(table, "list"))?;
     let of = pattern_by(alloc, value_at(table, "of"))?;
     let snapshot = snapshot_or_final(alloc, value_at(table, "snapshot"))?;
-    let order = order_or_id(value_at(table, "order"));
+    let order = order_or(Order::Id, value_at(table, "order"));
     let limit = limit_or_none(value_at(table, "limit"));
     let context = context_by(alloc, text_at(table, "context"))?;
     Ok(several(key, of, snapshot, order, limit, context))
 }
 
-fn text_at<'a>(table: &'a Table, key: &str) -> Option<&'a str>
+/// The text at a key of a table. Logarithmic.
+pub fn text_at<'a>(table: &'a Table, key: &str) -> Option<&'a str>
     ensures { option_map (λ s. s.now) result ≡ option_and_then as_str (get_member key.now (table_view table.now)) }
 {
     match value_at(table, key) {
@@ -56,7 +57,8 @@ fn text_at<'a>(table: &'a Table, key: &str) -> Option<&'a str>
     }
 }
 
-fn pattern_by(alloc: Global, value: Option<&Value>) -> Result<Option<Pattern>, NoMemory>
+/// The pattern that a value is, where there is one. `NoMemory` only for want of memory. Linear in the value.
+pub fn pattern_by(alloc: Global, value: Option<&Value>) -> Result<Option<Pattern>, NoMemory>
     ensures { IfOk result (λ o. o ≡ option_and_then patterns.pattern_of (option_map (λ v. view v.now) value.entry)) }
 {
     match value {
@@ -65,7 +67,8 @@ fn pattern_by(alloc: Global, value: Option<&Value>) -> Result<Option<Pattern>, N
     }
 }
 
-fn snapshot_or_final(alloc: Global, value: Option<&Value>) -> Result<Option<Text>, NoMemory>
+/// The name of a snapshot that a value is, and `_final` where there is no value. `NoMemory` only for want of memory. Linear.
+pub fn snapshot_or_final(alloc: Global, value: Option<&Value>) -> Result<Option<Text>, NoMemory>
     ensures { IfOk result (λ o. o ≡ spec.snapshot_or_final (option_map (λ v. view v.now) value.entry)) }
 {
     match value {
@@ -74,12 +77,13 @@ fn snapshot_or_final(alloc: Global, value: Option<&Value>) -> Result<Option<Text
     }
 }
 
-fn order_or_id(value: Option<&Value>) -> Option<Order>
-    ensures { result ≡ spec.order_or_id (option_map (λ v. view v.now) value.entry) }
+/// The order that a value names, and the usual one where there is no value. Constant.
+pub fn order_or(usual: Order, value: Option<&Value>) -> Option<Order>
+    ensures { result ≡ spec.order_or usual (option_map (λ v. view v.now) value.entry) }
 {
     match value {
         Some(value) => order_named(text_in(value)),
-        None => Some(Order::Id),
+        None => Some(usual),
     }
 }
 
@@ -106,26 +110,36 @@ fn order_of(word: &str) -> Option<Order>
 fn limit_or_none(value: Option<&Value>) -> Option<Option<u32>>
     ensures { result ≡ spec.limit_or_none (option_map (λ v. view v.now) value.entry) }
 {
-    match value {
-        Some(value) => limit_in(value.as_integer()),
-        None => Some(None),
-    }
-}
-
-fn limit_in(number: Option<i64>) -> Option<Option<u32>>
-    ensures { result ≡ spec.limit_in number }
-{
-    match number {
-        Some(number) => limit_of(number),
+    let Some(value) = value else {
+        return Some(None);
+    };
+    match count_of(value) {
+        Some(count) => Some(Some(count)),
         None => None,
     }
 }
 
-fn limit_of(number: i64) -> Option<Option<u32>>
-    ensures { result ≡ spec.limit_in (Some number) }
+/// The count of items that a value is, from 1 to 65,535. Constant.
+pub fn count_of(value: &Value) -> Option<u32>
+    ensures { result ≡ spec.count_of (view value.now) }
+{
+    count_by(value.as_integer())
+}
+
+fn count_by(number: Option<i64>) -> Option<u32>
+    ensures { result ≡ spec.count_by number }
+{
+    match number {
+        Some(number) => count_within(number),
+        None => None,
+    }
+}
+
+fn count_within(number: i64) -> Option<u32>
+    ensures { result ≡ spec.count_by (Some number) }
 {
     if 1 <= number && number <= 65_535 {
-        return Some(Some(number as u32));
+        return Some(number as u32);
     }
     None
 }

@@ -4,7 +4,7 @@ use Rattle.std.specs.Fmt.{decimal}
 use Rattle.hk_base.specs.Bytes.{Bytes}
 use Rattle.hk_base.specs.Identifier.{Ident, print_ident}
 use Rattle.hk_rules.specs.RulesFault.{RulesFault}
-use Rattle.hk_rules.specs.RulesFault.TheVariants.{TooLong, NotToml, BadRule, TooManyRules, BadContext, DoubleSnapshot, UnknownContext}
+use Rattle.hk_rules.specs.RulesFault.TheVariants.{TooLong, NotToml, BadRule, TooManyRules, BadContext, DoubleSnapshot, UnknownContext, BadTags, BadPaginate, BadFeed}
 use Rattle.hk_rules.specs.declared.plan_fault.PlanFault.{PlanFault}
 use Rattle.hk_rules.specs.declared.plan_fault.PlanFault.TheVariants.{BadName, TooManyItems, BadHeader, BadTarget, SameTarget, NestedTarget}
 use Rattle.hk_store.specs.declared.damage.StoreDamage.{StoreDamage}
@@ -23,6 +23,10 @@ around front name back = (front ++ name) ++ back
 abbrev pub rule_line : ℕ → Bytes → Bytes → Bytes → Bytes
 rule_line number front name back = (((codes "site.toml: rule " ++ (decimal number ++ codes ": ")) ++ front) ++ name) ++ back
 
+-- by the key of a table, its number, and the key in it that is at fault
+abbrev pub table_line : Bytes → ℕ → Bytes → Bytes
+table_line kind number word = ((codes "site.toml: " ++ (kind ++ (codes " " ++ (decimal number ++ codes ": ")))) ++ word) ++ end_of_line
+
 abbrev pub rules_line : RulesFault → Bytes
 rules_line TooLong = codes "site.toml: more than 1048576 bytes\n"
 rules_line NotToml = codes "site.toml: not TOML\n"
@@ -31,6 +35,9 @@ rules_line TooManyRules = codes "site.toml: more than 1024 rules\n"
 rules_line (BadContext name) = around (codes "site.toml: context ") name end_of_line
 rules_line (DoubleSnapshot number name) = rule_line number (codes "snapshot ") name (codes " twice\n")
 rules_line (UnknownContext number name) = rule_line number (codes "unknown context ") name end_of_line
+rules_line (BadTags number word) = table_line (codes "tags") number word
+rules_line (BadPaginate number word) = table_line (codes "paginate") number word
+rules_line (BadFeed number word) = table_line (codes "feed") number word
 
 abbrev pub header_line : Bytes → ℕ → Bytes
 header_line path line = around (codes "site: header of ") path (codes ", line " ++ (decimal line ++ end_of_line))

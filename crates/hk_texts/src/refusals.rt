@@ -28,7 +28,23 @@ pub fn rules_line(alloc: Global, fault: &RulesFault) -> Result<Text, NoMemory>
         RulesFault::UnknownContext { number, name } => {
             rule_line(alloc, *number, b"unknown context ", name.as_slice(), b"\n")
         }
+        RulesFault::BadTags { number, word } => table_line(alloc, "tags", *number, word.as_slice()),
+        RulesFault::BadPaginate { number, word } => {
+            table_line(alloc, "paginate", *number, word.as_slice())
+        }
+        RulesFault::BadFeed { number, word } => table_line(alloc, "feed", *number, word.as_slice()),
     }
+}
+
+/// `site.toml: ` with the key of a table, its number and the key in it that is at fault.
+fn table_line(alloc: Global, kind: &str, number: u32, word: &[u8]) -> Result<Text, NoMemory>
+    ensures { IfOk result (λ text. text ≡ spec.table_line kind.now number word.now) }
+{
+    let head = format!(in alloc; "site.toml: {kind} {number}: ")?;
+    let mut line = head.into_bytes();
+    line.extend_from_slice(word)?;
+    line.extend_from_slice(b"\n")?;
+    Ok(Text::from_vec(line))
 }
 
 /// `site.toml: rule N: ` with a word in front of a name and one after it.

@@ -9,9 +9,10 @@ use Rattle.hk_rules_file.proofs.reading.unless_many.Goals as goal
 pub returns-then-rules-gt-MOST_RULES-clause-read : goal.returns-then-rules-gt-MOST_RULES-clause-read
 returns-then-rules-gt-MOST_RULES-clause-read c =
     let many = ap (nat_lt 1024) (count_items-view c.args.rules.now) ∙ lt-ltb _ _ c.if-rules-gt-MOST_RULES.true in
-    ap (λ b. unless_many b (table_view c.args.contexts.now) (items_view c.args.rules.now)) many
+    ap (λ b. unless_many b (table_view c.args.contexts.now) (items_view c.args.rules.now) (items_view c.args.tags.now) (items_view c.args.pages.now) (items_view c.args.feeds.now)) many
 
 pub returns-clause-read : goal.returns-clause-read
 returns-clause-read c =
     let many = ap (nat_lt 1024) (count_items-view c.args.rules.now) ∙ le-ltb _ _ c.if-rules-gt-MOST_RULES.false in
-    subst (λ r. Answers r c.parts_in.result) (sym (ap (λ b. unless_many b (table_view c.args.contexts.now) (items_view c.args.rules.now)) many)) c.parts_in.ensures.read
+    let by = ap (λ b. unless_many b (table_view c.args.contexts.now) (items_view c.args.rules.now) (items_view c.args.tags.now) (items_view c.args.pages.now) (items_view c.args.feeds.now)) many in
+    subst (λ r. Answers r c.parts_in.result) (sym by) c.parts_in.ensures.read

@@ -1,5 +1,5 @@
 use Rattle.hk_sites.proofs.MadePlans.{plan-made}
-use Rattle.hk_sites.proofs.SmallRules.{plans-limited}
+use Rattle.hk_sites.proofs.SmallLimits.{plans-limited}
 use Rattle.hk_sites.proofs.making.rules_make_plans.Goals as goal
 
 pub returns-clause-made : goal.returns-clause-made
