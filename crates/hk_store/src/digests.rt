@@ -22,7 +22,7 @@ pub fn page_digest(alloc: Global, page: &Page) -> Result<[u8; 32], NoMemory>
     ensures { IfOk result (λ d. d ≡ sha_digests.page page.now) }
 {
     let mut front = Vec::from_slice(alloc, kind_line(page.kind))?;
-    write_num(alloc, &mut front, page.body.as_slice().len())?;
+    write_num(&mut front, page.body.as_slice().len())?;
     Ok(sha_of_three(&front, page.body.as_slice(), b"\n"))
 }
 
@@ -47,22 +47,22 @@ pub fn traits_digest(
     ensures { IfOk result (λ d. d ≡ sha_digests.traits (record { target = option_copied target.entry; meta = meta.now })) }
 {
     let mut pairs = Vec::new(alloc);
-    let count = write_pairs(alloc, &mut pairs, meta)?;
+    let count = write_pairs(&mut pairs, meta)?;
     let mut front = Vec::new(alloc);
-    write_opt(alloc, &mut front, target)?;
-    write_num(alloc, &mut front, count)?;
+    write_opt(&mut front, target)?;
+    write_num(&mut front, count)?;
     Ok(sha_of_three(&front, &pairs, b""))
 }
 
 /// Writes each key with its value, and tells how many there are.
-fn write_pairs(alloc: Global, out: &mut Vec<u8>, meta: &Metadata) -> Result<usize, NoMemory>
+fn write_pairs(out: &mut Vec<u8>, meta: &Metadata) -> Result<usize, NoMemory>
     ensures count { IfOk result (λ n. n ≡ length meta.now) }
     ensures written { OnOk result (out.new.items ≡ out.old.items ++ flat_map (both str str) meta.now) }
 {
     let mut place = 0;
     while let Some((key, value)) = meta.entry(place) {
-        write_str(alloc, out, key)?;
-        write_str(alloc, out, value)?;
+        write_str(out, key)?;
+        write_str(out, value)?;
         place += 1;
     }
     Ok(place)

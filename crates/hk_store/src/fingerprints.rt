@@ -27,9 +27,9 @@ pub fn fingerprint(alloc: Global, plan: &Plan, item: ItemNo) -> Result<Text, NoM
     plan.linked();
     let mut out = Vec::new(alloc);
     write_chain(alloc, &mut out, plan, item)?;
-    write_opt(alloc, &mut out, plan.target_of(item))?;
-    write_opt(alloc, &mut out, plan.resource(item))?;
-    write_opt(alloc, &mut out, plan.companion(item))?;
+    write_opt(&mut out, plan.target_of(item))?;
+    write_opt(&mut out, plan.resource(item))?;
+    write_opt(&mut out, plan.companion(item))?;
     Ok(Text::from_vec(out))
 }
 
@@ -49,7 +49,7 @@ fn write_chain(alloc: Global, out: &mut Vec<u8>, plan: &Plan, item: ItemNo) -> R
     ensures { OnOk result (out.new.items ≡ out.old.items ++ spec.chain_text (recipe_of plan.now item)) }
 {
     let steps = &plan.chain(item).steps;
-    write_str(alloc, out, b"chain")?;
+    write_str(out, b"chain")?;
     write_steps(alloc, out, plan, steps)?;
     let numbers = reached(alloc, plan, steps)?;
     write_contexts(alloc, out, plan, &numbers)
@@ -64,7 +64,7 @@ fn write_steps(
     requires { AllByRecursion (IsStepWithin (length plan.now.contexts) (length plan.now.patterns)) steps.now }
     ensures { OnOk result (out.new.items ≡ out.old.items ++ many spec.step_text (map (named_step (lookups plan.now)) steps.now)) }
 {
-    write_num(alloc, out, steps.len())?;
+    write_num(out, steps.len())?;
     write_each_step(alloc, out, plan, steps)
 }
 
@@ -88,36 +88,36 @@ fn write_step(alloc: Global, out: &mut Vec<u8>, plan: &Plan, step: &Step) -> Res
     ensures { OnOk result (out.new.items ≡ out.old.items ++ spec.step_text (named_step (lookups plan.now) step.now)) }
 {
     match step {
-        Step::Body => write_str(alloc, out, b"body"),
-        Step::Str => write_str(alloc, out, b"string"),
-        Step::Copy => write_str(alloc, out, b"copy"),
-        Step::TemplateBody => write_str(alloc, out, b"template"),
-        Step::Relativize => write_str(alloc, out, b"relativize"),
-        Step::Make(text) => write_pair(alloc, out, b"make", text.as_slice()),
-        Step::Save(name) => write_pair(alloc, out, b"save", name.as_slice()),
-        Step::SelfApply(context) => write_pair(alloc, out, b"self", name_of(plan, *context)),
+        Step::Body => write_str(out, b"body"),
+        Step::Str => write_str(out, b"string"),
+        Step::Copy => write_str(out, b"copy"),
+        Step::TemplateBody => write_str(out, b"template"),
+        Step::Relativize => write_str(out, b"relativize"),
+        Step::Make(text) => write_pair(out, b"make", text.as_slice()),
+        Step::Save(name) => write_pair(out, b"save", name.as_slice()),
+        Step::SelfApply(context) => write_pair(out, b"self", name_of(plan, *context)),
         Step::Concat(pattern) => {
-            write_str(alloc, out, b"concat")?;
+            write_str(out, b"concat")?;
             write_pattern(alloc, out, plan, *pattern)
         }
         Step::Load { id, snapshot } => {
-            write_str(alloc, out, b"load")?;
-            write_ident(alloc, out, id)?;
-            write_str(alloc, out, snapshot.as_slice())
+            write_str(out, b"load")?;
+            write_ident(out, id)?;
+            write_str(out, snapshot.as_slice())
         }
         Step::Apply { id, context } => {
-            write_str(alloc, out, b"apply")?;
-            write_ident(alloc, out, id)?;
-            write_str(alloc, out, name_of(plan, *context))
+            write_str(out, b"apply")?;
+            write_ident(out, id)?;
+            write_str(out, name_of(plan, *context))
         }
     }
 }
 
-fn write_pair(alloc: Global, out: &mut Vec<u8>, word: &[u8], text: &[u8]) -> Result<(), NoMemory>
+fn write_pair(out: &mut Vec<u8>, word: &[u8], text: &[u8]) -> Result<(), NoMemory>
     ensures { OnOk result (out.new.items ≡ out.old.items ++ (str word.now ++ str text.now)) }
 {
-    write_str(alloc, out, word)?;
-    write_str(alloc, out, text)
+    write_str(out, word)?;
+    write_str(out, text)
 }
 
 /// The text of a pattern, as it is.
@@ -151,7 +151,7 @@ fn write_contexts(
     requires within { AllByRecursion (λ c. c < length plan.now.contexts) numbers.now }
     ensures { OnOk result (out.new.items ≡ out.old.items ++ many spec.context_text (map (named_context (lookups plan.now)) numbers.now)) }
 {
-    write_num(alloc, out, numbers.len())?;
+    write_num(out, numbers.len())?;
     write_each_context(alloc, out, plan, numbers)
 }
 
@@ -182,8 +182,8 @@ fn write_context(
     ensures { OnOk result (out.new.items ≡ out.old.items ++ spec.context_text (named_context (lookups plan.now) number)) }
 {
     let named = plan.context(number);
-    write_str(alloc, out, named.name.as_slice())?;
-    write_num(alloc, out, named.fields.len())?;
+    write_str(out, named.name.as_slice())?;
+    write_num(out, named.fields.len())?;
     write_each_field(alloc, out, plan, &named.fields)
 }
 
@@ -207,15 +207,15 @@ fn write_field(alloc: Global, out: &mut Vec<u8>, plan: &Plan, field: &Field) -> 
     ensures { OnOk result (out.new.items ≡ out.old.items ++ spec.field_text (named_field (lookups plan.now) field.now)) }
 {
     match field {
-        Field::Body => write_str(alloc, out, b"body"),
-        Field::Metadata => write_str(alloc, out, b"metadata"),
-        Field::Url => write_str(alloc, out, b"url"),
-        Field::Path => write_str(alloc, out, b"path"),
-        Field::Title => write_str(alloc, out, b"title"),
-        Field::Const(key, text) => write_keyed(alloc, out, b"const", key, text.as_slice()),
-        Field::Date(key, pattern) => write_keyed(alloc, out, b"date", key, pattern.as_slice()),
-        Field::Teaser(key, name) => write_keyed(alloc, out, b"teaser", key, name.as_slice()),
-        Field::Bool(key, set) => write_keyed(alloc, out, b"bool", key, flag_word(*set)),
+        Field::Body => write_str(out, b"body"),
+        Field::Metadata => write_str(out, b"metadata"),
+        Field::Url => write_str(out, b"url"),
+        Field::Path => write_str(out, b"path"),
+        Field::Title => write_str(out, b"title"),
+        Field::Const(key, text) => write_keyed(out, b"const", key, text.as_slice()),
+        Field::Date(key, pattern) => write_keyed(out, b"date", key, pattern.as_slice()),
+        Field::Teaser(key, name) => write_keyed(out, b"teaser", key, name.as_slice()),
+        Field::Bool(key, set) => write_keyed(out, b"bool", key, flag_word(*set)),
         Field::List {
             key,
             of,
@@ -224,27 +224,21 @@ fn write_field(alloc: Global, out: &mut Vec<u8>, plan: &Plan, field: &Field) -> 
             limit,
             context,
         } => {
-            write_pair(alloc, out, b"list", key.as_slice())?;
+            write_pair(out, b"list", key.as_slice())?;
             write_pattern(alloc, out, plan, *of)?;
-            write_str(alloc, out, snapshot.as_slice())?;
-            write_str(alloc, out, order_word(*order))?;
-            write_num(alloc, out, most_of(*limit))?;
-            write_str(alloc, out, name_of(plan, *context))
+            write_str(out, snapshot.as_slice())?;
+            write_str(out, order_word(*order))?;
+            write_num(out, most_of(*limit))?;
+            write_str(out, name_of(plan, *context))
         }
     }
 }
 
-fn write_keyed(
-    alloc: Global,
-    out: &mut Vec<u8>,
-    word: &[u8],
-    key: &Text,
-    text: &[u8],
-) -> Result<(), NoMemory>
+fn write_keyed(out: &mut Vec<u8>, word: &[u8], key: &Text, text: &[u8]) -> Result<(), NoMemory>
     ensures { OnOk result (out.new.items ≡ out.old.items ++ (str word.now ++ (str key.now ++ str text.now))) }
 {
-    write_str(alloc, out, word)?;
-    write_pair(alloc, out, key.as_slice(), text)
+    write_str(out, word)?;
+    write_pair(out, key.as_slice(), text)
 }
 
 fn flag_word(set: bool) -> &'static [u8]

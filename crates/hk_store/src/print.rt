@@ -23,7 +23,7 @@ pub fn print_store(alloc: Global, stored: &Stored) -> Result<Text, NoMemory>
     ensures { IfOk result (λ t. t ≡ spec.sealed (spec.store_text stored.now)) }
 {
     let mut out = Vec::new(alloc);
-    write_store(alloc, &mut out, &stored.entries)?;
+    write_store(&mut out, &stored.entries)?;
     let trailer = sha_of(&out);
     append(&mut out, &trailer)?;
     Ok(Text::from_vec(out))
@@ -38,137 +38,132 @@ pub(crate) fn sha_of(bytes: &[u8]) -> [u8; 32]
     hasher.finalize()
 }
 
-fn write_store(alloc: Global, out: &mut Vec<u8>, entries: &[Entry]) -> Result<(), NoMemory>
+fn write_store(out: &mut Vec<u8>, entries: &[Entry]) -> Result<(), NoMemory>
     ensures { OnOk result (out.new.items ≡ out.old.items ++ spec.store_text entries.now) }
 {
     append(out, b"hkstore 2\n")?;
-    write_num(alloc, out, entries.len())?;
-    write_entries(alloc, out, entries)
+    write_num(out, entries.len())?;
+    write_entries(out, entries)
 }
 
-fn write_entries(alloc: Global, out: &mut Vec<u8>, entries: &[Entry]) -> Result<(), NoMemory>
+fn write_entries(out: &mut Vec<u8>, entries: &[Entry]) -> Result<(), NoMemory>
     ensures { OnOk result (out.new.items ≡ out.old.items ++ flat_map spec.entry_text entries.now) }
 {
     for entry in entries {
-        write_entry(alloc, out, entry)?;
+        write_entry(out, entry)?;
     }
     Ok(())
 }
 
-fn write_entry(alloc: Global, out: &mut Vec<u8>, entry: &Entry) -> Result<(), NoMemory>
+fn write_entry(out: &mut Vec<u8>, entry: &Entry) -> Result<(), NoMemory>
     ensures { OnOk result (out.new.items ≡ out.old.items ++ spec.entry_text entry.now) }
 {
-    write_ident(alloc, out, &entry.id)?;
-    write_digest(alloc, out, &entry.print)?;
-    write_patterns(alloc, out, &entry.patterns)?;
-    write_marks(alloc, out, &entry.marks)
+    write_ident(out, &entry.id)?;
+    write_digest(out, &entry.print)?;
+    write_patterns(out, &entry.patterns)?;
+    write_marks(out, &entry.marks)
 }
 
-fn write_digest(alloc: Global, out: &mut Vec<u8>, digest: &[u8; 32]) -> Result<(), NoMemory>
+fn write_digest(out: &mut Vec<u8>, digest: &[u8; 32]) -> Result<(), NoMemory>
     ensures { OnOk result (out.new.items ≡ out.old.items ++ spec.digest_text digest.now) }
 {
-    let digits = hex::encode(alloc, digest.as_slice())?;
-    append(out, digits.as_bytes())?;
+    let mut digits = [0; 64];
+    if hex::encode_to_slice(digest.as_slice(), &mut digits).is_err() {
+        unreachable!();
+    }
+    append(out, &digits)?;
     append(out, b"\n")
 }
 
-fn write_patterns(
-    alloc: Global,
-    out: &mut Vec<u8>,
-    patterns: &[MatchRecord],
-) -> Result<(), NoMemory>
+fn write_patterns(out: &mut Vec<u8>, patterns: &[MatchRecord]) -> Result<(), NoMemory>
     ensures { OnOk result (out.new.items ≡ out.old.items ++ many spec.match_text patterns.now) }
 {
-    write_num(alloc, out, patterns.len())?;
-    write_each_pattern(alloc, out, patterns)
+    write_num(out, patterns.len())?;
+    write_each_pattern(out, patterns)
 }
 
-fn write_each_pattern(
-    alloc: Global,
-    out: &mut Vec<u8>,
-    patterns: &[MatchRecord],
-) -> Result<(), NoMemory>
+fn write_each_pattern(out: &mut Vec<u8>, patterns: &[MatchRecord]) -> Result<(), NoMemory>
     ensures { OnOk result (out.new.items ≡ out.old.items ++ flat_map spec.match_text patterns.now) }
 {
     for pattern in patterns {
-        write_pattern(alloc, out, pattern)?;
+        write_pattern(out, pattern)?;
     }
     Ok(())
 }
 
-fn write_pattern(alloc: Global, out: &mut Vec<u8>, pattern: &MatchRecord) -> Result<(), NoMemory>
+fn write_pattern(out: &mut Vec<u8>, pattern: &MatchRecord) -> Result<(), NoMemory>
     ensures { OnOk result (out.new.items ≡ out.old.items ++ spec.match_text pattern.now) }
 {
-    write_str(alloc, out, pattern.text.as_slice())?;
-    write_num(alloc, out, pattern.matches.len())?;
-    write_each_ident(alloc, out, &pattern.matches)
+    write_str(out, pattern.text.as_slice())?;
+    write_num(out, pattern.matches.len())?;
+    write_each_ident(out, &pattern.matches)
 }
 
-fn write_each_ident(alloc: Global, out: &mut Vec<u8>, ids: &[Identifier]) -> Result<(), NoMemory>
+fn write_each_ident(out: &mut Vec<u8>, ids: &[Identifier]) -> Result<(), NoMemory>
     ensures { OnOk result (out.new.items ≡ out.old.items ++ flat_map field.ident_text ids.now) }
 {
     for id in ids {
-        write_ident(alloc, out, id)?;
+        write_ident(out, id)?;
     }
     Ok(())
 }
 
-fn write_marks(alloc: Global, out: &mut Vec<u8>, marks: &[MarkRecord]) -> Result<(), NoMemory>
+fn write_marks(out: &mut Vec<u8>, marks: &[MarkRecord]) -> Result<(), NoMemory>
     ensures { OnOk result (out.new.items ≡ out.old.items ++ many spec.mark_text (map mark_view marks.now)) }
 {
-    write_num(alloc, out, marks.len())?;
-    write_each_mark(alloc, out, marks)
+    write_num(out, marks.len())?;
+    write_each_mark(out, marks)
 }
 
-fn write_each_mark(alloc: Global, out: &mut Vec<u8>, marks: &[MarkRecord]) -> Result<(), NoMemory>
+fn write_each_mark(out: &mut Vec<u8>, marks: &[MarkRecord]) -> Result<(), NoMemory>
     ensures { OnOk result (out.new.items ≡ out.old.items ++ flat_map spec.mark_text (map mark_view marks.now)) }
 {
     for mark in marks {
-        write_mark(alloc, out, mark)?;
+        write_mark(out, mark)?;
     }
     Ok(())
 }
 
-fn write_mark(alloc: Global, out: &mut Vec<u8>, mark: &MarkRecord) -> Result<(), NoMemory>
+fn write_mark(out: &mut Vec<u8>, mark: &MarkRecord) -> Result<(), NoMemory>
     ensures { OnOk result (out.new.items ≡ out.old.items ++ spec.mark_text (mark_view mark.now)) }
 {
     match mark {
         MarkRecord::Asks(asks) => {
             append(out, b"a\n")?;
-            write_num(alloc, out, asks.len())?;
-            write_each_ask(alloc, out, asks)
+            write_num(out, asks.len())?;
+            write_each_ask(out, asks)
         }
         MarkRecord::Save(save) => {
             append(out, b"s\n")?;
-            write_str(alloc, out, save.name.as_slice())?;
-            write_page(alloc, out, save.page.get())
+            write_str(out, save.name.as_slice())?;
+            write_page(out, save.page.get())
         }
     }
 }
 
-fn write_each_ask(alloc: Global, out: &mut Vec<u8>, asks: &[AskRecord]) -> Result<(), NoMemory>
+fn write_each_ask(out: &mut Vec<u8>, asks: &[AskRecord]) -> Result<(), NoMemory>
     ensures { OnOk result (out.new.items ≡ out.old.items ++ flat_map spec.ask_text asks.now) }
 {
     for ask in asks {
-        write_ask(alloc, out, ask)?;
+        write_ask(out, ask)?;
     }
     Ok(())
 }
 
-fn write_ask(alloc: Global, out: &mut Vec<u8>, ask: &AskRecord) -> Result<(), NoMemory>
+fn write_ask(out: &mut Vec<u8>, ask: &AskRecord) -> Result<(), NoMemory>
     ensures { OnOk result (out.new.items ≡ out.old.items ++ spec.ask_text ask.now) }
 {
-    write_ident(alloc, out, &ask.id)?;
-    write_str(alloc, out, ask.name.as_slice())?;
-    write_digest(alloc, out, &ask.page)?;
-    write_digest(alloc, out, &ask.traits)
+    write_ident(out, &ask.id)?;
+    write_str(out, ask.name.as_slice())?;
+    write_digest(out, &ask.page)?;
+    write_digest(out, &ask.traits)
 }
 
-fn write_page(alloc: Global, out: &mut Vec<u8>, page: &Page) -> Result<(), NoMemory>
+fn write_page(out: &mut Vec<u8>, page: &Page) -> Result<(), NoMemory>
     ensures { OnOk result (out.new.items ≡ out.old.items ++ spec.page_text page.now) }
 {
     append(out, kind_line(page.kind))?;
-    write_str(alloc, out, page.body.as_slice())
+    write_str(out, page.body.as_slice())
 }
 
 /// The line that tells a page's kind.
