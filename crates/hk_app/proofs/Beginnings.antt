@@ -11,7 +11,7 @@ use Rattle.hk_words.specs.declared.commands.Command.TheVariants.{Build, Rebuild}
 use Rattle.hk_app.specs.declared.ended.Ended.{Ended}
 use Rattle.hk_app.specs.declared.status.Status.{Status}
 use Rattle.hk_app.specs.declared.status.Status.TheVariants.{Ok as Done, Report, Usage, BadRules, BadSite, ReadFault, WriteFault, StoreFault, OutFault, NoMemory, BadLinks}
-use Rattle.hk_app.specs.declared.taking.Taken.{Taken as TakenStore}
+use Rattle.hk_app.specs.declared.taken.Taken.{Taken as TakenStore}
 use Rattle.hk_app.specs.Beginning.{IsStill, IsReady}
 use Rattle.hk_app.specs.Finishing.{Moves}
 use Rattle.hk_app.specs.Promise.{Always, Comes, reads_source, AllButStore, whole, stopped, StoreLeft, saved, unsaved, torn_store, IsPast}

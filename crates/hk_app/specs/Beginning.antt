@@ -12,7 +12,7 @@ use Rattle.hk_words.specs.declared.commands.Command.{Command}
 use Rattle.hk_app.specs.declared.beginning.Begun.{Begun}
 use Rattle.hk_app.specs.declared.beginning.Begun.TheVariants.{Over, Ready}
 use Rattle.hk_app.specs.declared.status.Status.TheVariants.{StoreFault}
-use Rattle.hk_app.specs.declared.taking.Taken.{Taken as TakenStore}
+use Rattle.hk_app.specs.declared.taken.Taken.{Taken as TakenStore}
 use Rattle.hk_app.specs.Promise.{Comes, IsPlanOf}
 use Rattle.hk_app.specs.Standing.{Same, store_path}
 use Rattle.hk_app.specs.TakenBy.{taken_by}

@@ -1,6 +1,6 @@
 -- What was taken of the cache, as plain data.
 use Rattle.hk_reuse.specs.Entries.{entries_in}
-use Rattle.hk_app.specs.declared.taking.Taken.{Taken as TakenStore}
+use Rattle.hk_app.specs.declared.taken.Taken.{Taken as TakenStore}
 use Rattle.hk_app.specs.Taking.{Taken}
 
 abbrev pub taken_by : TakenStore → Taken

@@ -15,7 +15,7 @@ ghost use Rattle.hk_app.specs.World.{Folder, folder, folders};
 
 use crate::Status;
 use crate::ended::Ended;
-use crate::taking::Taken;
+use crate::taken::Taken;
 use hk_base::{NoMemory, Text};
 use hk_build::{Build, kept_items_leave_histories, report_lines, shown_trace, site_pages};
 use hk_outside::{Tree, TreeFault};

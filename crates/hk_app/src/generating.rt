@@ -29,7 +29,7 @@ pub fn generate(alloc: Global, options: GenerateOptions) -> Result<Ended, NoMemo
         Gathered::Refused(ended) => Ok(ended),
         Gathered::Planned(plan) => {
             let plan = Shared::new(alloc, plan)?;
-            let build = build_one(alloc, &plan, &nothing_stored(alloc))?;
+            let build = build_one(alloc, &plan, &nothing_stored(alloc), None)?;
             tell_generated(alloc, plan.get(), &build)
         }
     }

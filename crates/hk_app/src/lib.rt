@@ -13,6 +13,7 @@ mod pool;
 mod reading;
 mod run;
 mod status;
+mod taken;
 mod taking;
 
 pub use pool::site_main;

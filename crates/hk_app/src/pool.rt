@@ -18,7 +18,8 @@ use crate::finishing::finish;
 use crate::generating::{gather_generated, tell_generated};
 use crate::reading::Gathered;
 use crate::run::{say, work};
-use crate::taking::{Taken, nothing_stored};
+use crate::taken::Taken;
+use crate::taking::nothing_stored;
 use hk_base::{NoMemory, Shared};
 use hk_build::build_in_pool;
 use hk_outside::{Gate, Sink, Tree};
@@ -151,7 +152,15 @@ fn build_plan<R: Threads + Wait + Sync, O: Tree, C: Tree, G: Gate>(
     ensures site { Moves (folder (O.files site.old) (O.faults site.old)) (folder (O.files site.new) (O.faults site.new)) }
     ensures cache { Moves (folder (C.files cache.old) (C.faults cache.old)) (folder (C.files cache.new) (C.faults cache.new)) }
 {
-    let build = build_in_pool(rt, alloc, plan, &taken.stored, options.workers, gate)?;
+    let build = build_in_pool(
+        rt,
+        alloc,
+        plan,
+        &taken.stored,
+        taken.bytes(),
+        options.workers,
+        gate,
+    )?;
     finish(alloc, site, cache, plan.get(), taken, &build, options.trace)
 }
 
@@ -172,7 +181,7 @@ fn generate<R: Threads + Wait + Sync, G: Gate>(
         Gathered::Planned(plan) => {
             let plan = Shared::new(alloc, plan)?;
             let nothing = nothing_stored(alloc);
-            let build = build_in_pool(rt, alloc, &plan, &nothing, options.workers, gate)?;
+            let build = build_in_pool(rt, alloc, &plan, &nothing, None, options.workers, gate)?;
             tell_generated(alloc, plan.get(), &build)
         }
     }

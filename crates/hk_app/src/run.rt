@@ -17,7 +17,7 @@ use crate::ended::Ended;
 use crate::finishing::finish;
 use crate::generating::generate;
 use crate::linking::links;
-use crate::taking::Taken;
+use crate::taken::Taken;
 use hk_base::{NoMemory, Shared};
 use hk_build::build_one;
 use hk_outside::{Sink, Tree, TreeFault};
@@ -165,7 +165,7 @@ fn build_plan<O: Tree, C: Tree>(
     ensures site { Moves (folder (O.files site.old) (O.faults site.old)) (folder (O.files site.new) (O.faults site.new)) }
     ensures cache { Moves (folder (C.files cache.old) (C.faults cache.old)) (folder (C.files cache.new) (C.faults cache.new)) }
 {
-    let build = build_one(alloc, plan, &taken.stored)?;
+    let build = build_one(alloc, plan, &taken.stored, taken.bytes())?;
     finish(alloc, site, cache, plan.get(), taken, &build, trace)
 }
 

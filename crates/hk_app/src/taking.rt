@@ -1,25 +1,20 @@
 // What a build takes of the cache.
-ghost use Rattle.std.specs.Prelude.{◌≡◌, [], Err, IfOk, IfSome};
+ghost use Rattle.std.specs.Prelude.{◌≡◌, [], Ok, Err, IfOk, IfSome};
 ghost use Rattle.std.specs.FinMap.{get};
 ghost use Rattle.hk_outside.specs.Causes.{HasCause};
 ghost use Rattle.hk_store.specs.Stored.{IsStored};
+ghost use Rattle.hk_store.specs.StoreText.{sealed, store_text};
 ghost use Rattle.hk_app.specs.Standing.{store_path};
 ghost use Rattle.hk_app.specs.Taking as spec;
 ghost use Rattle.hk_app.specs.Taking.{IsReadOf, IsTakenOf};
 ghost use Rattle.hk_app.specs.TakenBy.{taken_by};
 
+use crate::taken::Taken;
 use hk_base::{NoMemory, Refusal, Text};
 use hk_outside::{Tree, TreeFault};
 use hk_store::{StoreDamage, Stored, read_store};
 use hk_texts::damage_line;
 use std::alloc::Global;
-
-/// The entries of a store, and the line that says why it has none.
-#[derive(Drop)]
-pub struct Taken {
-    pub stored: Stored,
-    pub damage: Text,
-}
 
 impl Taken {
     /// No entries, and nothing to say.
@@ -30,6 +25,7 @@ impl Taken {
         Ok(Taken {
             stored: nothing_stored(alloc),
             damage: Text::from_slice(alloc, b"")?,
+            bytes: None,
         })
     }
 }
@@ -52,24 +48,36 @@ pub fn take_store<C: Tree>(alloc: Global, cache: &mut C) -> Result<Taken, TreeFa
     ensures cause { HasCause (C.faults cache.old) (C.faults cache.new) result }
 {
     match cache.read(alloc, b"store")? {
-        Some(bytes) => Ok(taken_of(alloc, &bytes)?),
+        Some(bytes) => Ok(taken_of(alloc, bytes)?),
         None => Ok(Taken::nothing(alloc)?),
     }
 }
 
 /// The entries of a store's bytes.
-fn taken_of(alloc: Global, bytes: &[u8]) -> Result<Taken, NoMemory>
-    ensures taken { IfOk result (λ t. IsReadOf bytes.now (taken_by t)) }
+fn taken_of(alloc: Global, bytes: Vec<u8>) -> Result<Taken, NoMemory>
+    ensures taken { IfOk result (λ t. IsReadOf bytes.items (taken_by t)) }
     ensures stored { IfOk result (λ t. IsStored t.stored) }
 {
-    match read_store(alloc, bytes) {
-        Ok(stored) => Ok(Taken {
-            stored,
-            damage: Text::from_slice(alloc, b"")?,
-        }),
+    match read_store(alloc, &bytes) {
+        Ok(stored) => whole(alloc, stored, bytes),
         Err(Refusal::Fault(damage)) => damaged(alloc, &damage),
         Err(Refusal::NoMemory) => Err(NoMemory),
     }
+}
+
+/// The entries of a store with the bytes that they were read from.
+fn whole(alloc: Global, stored: Stored, bytes: Vec<u8>) -> Result<Taken, NoMemory>
+    requires stored { IsStored stored }
+    requires bytes { bytes.items ≡ sealed (store_text stored) }
+    ensures taken { IfOk result (λ t. taken_by t ≡ spec.taken_of (Ok stored)) }
+    ensures stored { IfOk result (λ t. IsStored t.stored) }
+{
+    let damage = Text::from_slice(alloc, b"")?;
+    Ok(Taken {
+        stored,
+        damage,
+        bytes: Some(Text::from_vec(bytes)),
+    })
 }
 
 /// No entries, and the line of the damage.
@@ -80,5 +88,6 @@ fn damaged(alloc: Global, damage: &StoreDamage) -> Result<Taken, NoMemory>
     Ok(Taken {
         stored: nothing_stored(alloc),
         damage: damage_line(alloc, damage)?,
+        bytes: None,
     })
 }

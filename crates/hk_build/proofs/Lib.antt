@@ -8,5 +8,6 @@ pub mod PageMaps
 pub mod Plans
 pub mod Renderings
 pub mod Replayed
+mod SameStores
 pub mod Showing
 pub mod Storing

@@ -1,5 +1,7 @@
 -- What a build gives, and when its replays are those of entries.
-use Rattle.std.specs.Prelude.{◌≡◌}
+use Rattle.std.specs.Prelude.{◌≡◌, List, Option}
+use Rattle.std.specs.Option.{ForSome}
+use Rattle.hk_base.specs.Bytes.{Bytes}
 use Rattle.hk_fix.specs.Results.{ResultsView}
 use Rattle.hk_replay.specs.Numbered.{AreNumbered}
 use Rattle.hk_replay.specs.declared.record.Records.{Records}
@@ -7,6 +9,8 @@ use Rattle.hk_reuse.specs.Entries.{Entries, AreFormed}
 use Rattle.hk_rules.specs.PlanView.{PlanView}
 use Rattle.hk_rules.specs.MadePlan.{IsMadePlan}
 use Rattle.hk_sites.specs.PlanSite.{items_of}
+use Rattle.hk_store.specs.Entry.{EntryView}
+use Rattle.hk_store.specs.StoreText.{sealed, store_text}
 use Rattle.hk_store.specs.Traits.{sha_digests}
 use Rattle.hk_build.specs.declared.ended.Build.{Build}
 use Rattle.hk_build.specs.Build.{compiled, image}
@@ -31,3 +35,7 @@ HasReplayed plan records r = (entries : Entries) × IsReplayed plan entries reco
 -- what a build over some entries gave
 abbrev pub HasBuilt : PlanView → Build → Type 0
 HasBuilt plan b = (entries : Entries) × IsBuild plan entries b
+
+-- bytes, where there are some, are those of a store with these entries
+abbrev pub AreBytesOf : List EntryView → Option Bytes → Type 0
+AreBytesOf entries bytes = ForSome bytes (λ b. b ≡ sealed (store_text entries))

@@ -1,16 +1,20 @@
 // What a build gives.
-ghost use Rattle.std.specs.Prelude.{IfOk};
+ghost use Rattle.std.specs.Prelude.{◌≡◌, IfOk};
+ghost use Rattle.std.specs.Option.{option_copied};
 ghost use Rattle.hk_reuse.specs.Entries.{Entries};
 ghost use Rattle.hk_replay.specs.Known.{IsKnown};
-ghost use Rattle.hk_build.specs.Ended.{IsBuild, IsReplayed, HasReplayed};
+ghost use Rattle.hk_store.specs.Stored.{IsStored};
+ghost use Rattle.hk_store.specs.StoreText.{sealed, store_text};
+ghost use Rattle.hk_build.specs.Ended.{AreBytesOf, IsBuild, IsReplayed, HasReplayed};
 
+use crate::same::is_same;
 use hk_base::{NoMemory, Text};
 use hk_chain::ItemNo;
 use hk_fix::Results;
 use hk_machine::PlanMaker;
 use hk_replay::ReplayMaker;
 use hk_rules::Plan;
-use hk_store::print_store;
+use hk_store::{Stored, print_store};
 use std::alloc::Global;
 
 /// What a build of a plan over stored entries gives: the results of its items, the items that were compiled, in order, and
@@ -22,23 +26,46 @@ pub struct Build {
     pub store: Text,
 }
 
-/// What a build gives whose compilers have all ended.
+/// What a build gives whose compilers have all ended, and which began with a store of these entries and bytes.
 pub(crate) fn ended(
     alloc: Global,
     plan: &Plan,
     maker: &ReplayMaker<PlanMaker>,
     results: Results,
+    stored: &Stored,
+    bytes: Option<&[u8]>,
 ) -> Result<Build, NoMemory>
     requires known { IsKnown plan.now maker.now.known }
     requires replayed { HasReplayed plan.now maker.now.records results }
+    requires bytes { AreBytesOf stored.now (option_copied bytes) }
     ensures { IfOk result (λ b. (entries : Entries) → IsReplayed plan.now entries maker.now.records results → IsBuild plan.now entries b) }
 {
     let compiled = maker.out_of_date(alloc, plan, &results)?;
     let left = maker.make_stored(alloc, plan, &results)?;
-    let store = print_store(alloc, &left)?;
+    let store = bytes_left(alloc, &left, stored, bytes)?;
     Ok(Build {
         results,
         compiled,
         store,
     })
+}
+
+/// The bytes of the store that a build leaves. Where it has the entries of the store with which the build began, these are
+/// that store's bytes, and nothing is printed or hashed.
+fn bytes_left(
+    alloc: Global,
+    left: &Stored,
+    stored: &Stored,
+    bytes: Option<&[u8]>,
+) -> Result<Text, NoMemory>
+    requires left { IsStored left.now }
+    requires bytes { AreBytesOf stored.now (option_copied bytes) }
+    ensures { IfOk result (λ t. t ≡ sealed (store_text left.now)) }
+{
+    if let Some(bytes) = bytes {
+        if is_same(left, stored) {
+            return Text::from_slice(alloc, bytes);
+        }
+    }
+    print_store(alloc, left)
 }

@@ -12,6 +12,7 @@ mod pages;
 mod pool;
 mod replays;
 mod report;
+mod same;
 mod shown;
 
 pub use build::build_one;

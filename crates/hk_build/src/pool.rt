@@ -1,8 +1,9 @@
 // A build by several workers.
 ghost use Rattle.std.specs.Prelude.{◌<◌, ◌≤◌, IfOk};
+ghost use Rattle.std.specs.Option.{option_copied};
 ghost use Rattle.hk_store.specs.Stored.{IsStored};
 ghost use Rattle.hk_reuse.specs.Entries.{entries_in};
-ghost use Rattle.hk_build.specs.Ended.{IsBuild};
+ghost use Rattle.hk_build.specs.Ended.{AreBytesOf, IsBuild};
 ghost use Rattle.hk_build.specs.Planned.{IsPlanned};
 
 use crate::ended::{Build, ended};
@@ -25,11 +26,13 @@ pub fn build_in_pool<R: Threads + Wait + Sync, G: Gate>(
     alloc: Global,
     plan: &Shared<Plan>,
     stored: &Stored,
+    bytes: Option<&[u8]>,
     workers: u32,
     gate: &G,
 ) -> Result<Build, NoMemory>
     requires plan { IsPlanned plan.now }
     requires stored { IsStored stored.now }
+    requires bytes { AreBytesOf stored.now (option_copied bytes) }
     requires workers { (0 < workers) × (workers ≤ 64) }
     ensures { IfOk result (IsBuild plan.now (entries_in stored.now)) }
 {
@@ -38,5 +41,5 @@ pub fn build_in_pool<R: Threads + Wait + Sync, G: Gate>(
     let kept = Kept::none(alloc, layout.get())?;
     let maker = replays(alloc, plan, stored)?;
     let results = run_pool(rt, alloc, layout.try_clone()?, kept, &maker, workers, gate)?;
-    ended(alloc, plan.get(), &maker, results)
+    ended(alloc, plan.get(), &maker, results, stored, bytes)
 }
