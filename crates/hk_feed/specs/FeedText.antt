@@ -1,0 +1,136 @@
+-- The text of a feed. Each line ends with LF.
+use Rattle.std.specs.Prelude.{ℕ, List, [], ◌∷◌, ◌++◌, Option, Some, None, codes}
+use Rattle.std.specs.List.{flat_map}
+use Rattle.std.specs.Option.{unwrap_or}
+use Rattle.hk_base.specs.Bytes.{Bytes}
+use Rattle.hk_chain.specs.declared.page.Page.{Page}
+use Rattle.hk_html.specs.Url.{url_of}
+use Rattle.hk_meta.specs.DateFormat.{format_date}
+use Rattle.hk_meta.specs.declared.date.Moment.{Moment}
+use Rattle.hk_rules.specs.Plan.{Lookups}
+use Rattle.hk_feed.specs.Entries.{Entry, entries}
+use Rattle.hk_feed.specs.Members.{date_at}
+use Rattle.hk_feed.specs.Titles.{title_at}
+use Rattle.hk_feed.specs.Xml.{xml}
+use Rattle.hk_feed.specs.declared.feed_rule.FeedKind.{FeedKind}
+use Rattle.hk_feed.specs.declared.feed_rule.FeedKind.TheVariants.{Atom, Rss}
+use Rattle.hk_feed.specs.declared.feed_rule.FeedRule.{FeedRule}
+
+-- a value between two marks
+abbrev pub element : Bytes → Bytes → Bytes → Bytes
+element open_mark value close_mark = open_mark ++ (xml value ++ close_mark)
+
+-- the root and the URL of a target
+abbrev pub link_to : Bytes → Bytes → Bytes
+link_to root target = root ++ url_of target
+
+-- the root and the URL of an item's target
+abbrev pub link_of : Lookups → Bytes → ℕ → Bytes
+link_of plan root item = link_to root (unwrap_or (plan.target_of item) [])
+
+abbrev pub date_by : Bytes → Option Moment → Bytes
+date_by pattern None = []
+date_by pattern (Some date) = format_date date pattern
+
+-- the date of an item, printed
+abbrev pub date_text : Lookups → Bytes → ℕ → Bytes
+date_text plan pattern item = date_by pattern (date_at plan item)
+
+abbrev pub first_line : Bytes
+first_line = codes "<?xml version=\"1.0\" encoding=\"utf-8\"?>\n"
+
+abbrev pub title_line : Bytes → Bytes
+title_line title = element (codes "<title>") title (codes "</title>\n")
+
+abbrev pub slash_after : Bytes → Bytes
+slash_after root = root ++ codes "/"
+
+-- ---- Atom
+
+abbrev pub atom_dates : Bytes
+atom_dates = codes "%Y-%m-%dT%H:%M:%SZ"
+
+abbrev pub email_text : Option Bytes → Bytes
+email_text None = []
+email_text (Some email) = element (codes "<email>") email (codes "</email>")
+
+abbrev pub author_line : FeedRule → Bytes
+author_line feed = element (codes "<author><name>") feed.author (codes "</name>") ++ (email_text feed.email ++ codes "</author>\n")
+
+-- when the first entry was written, or else when time began
+abbrev pub updated : Lookups → List Entry → Bytes
+updated plan [] = codes "1970-01-01T00:00:00Z"
+updated plan (first ∷ others) = date_text plan atom_dates first.item
+
+abbrev pub updated_line : Bytes → Bytes
+updated_line date = element (codes "<updated>") date (codes "</updated>\n")
+
+abbrev pub id_line : Bytes → Bytes
+id_line link = element (codes "<id>") link (codes "</id>\n")
+
+abbrev pub self_lines : Bytes → Bytes → Bytes
+self_lines root itself =
+    element (codes "<link href=\"") itself (codes "\" rel=\"self\"/>\n")
+    ++ (element (codes "<link href=\"") (slash_after root) (codes "\"/>\n") ++ id_line itself)
+
+abbrev pub atom_head : FeedRule → Bytes
+atom_head feed =
+    title_line feed.title
+    ++ (element (codes "<subtitle>") feed.description (codes "</subtitle>\n") ++ (self_lines feed.root (link_to feed.root feed.target) ++ author_line feed))
+
+abbrev pub atom_links : Bytes → Bytes
+atom_links link = element (codes "<link href=\"") link (codes "\"/>\n") ++ id_line link
+
+-- the body of the page, and the end of the entry
+abbrev pub content_lines : Entry → Bytes
+content_lines entry = element (codes "<content type=\"html\">") entry.page.body (codes "</content>\n</entry>\n")
+
+abbrev pub atom_entry : Lookups → Bytes → Entry → Bytes
+atom_entry plan root entry =
+    codes "<entry>\n" ++ (title_line (title_at plan entry.item) ++ (atom_links (link_of plan root entry.item)
+    ++ (updated_line (date_text plan atom_dates entry.item) ++ content_lines entry)))
+
+abbrev pub atom_text : Lookups → FeedRule → List Entry → Bytes
+atom_text plan feed own =
+    codes "<feed xmlns=\"http://www.w3.org/2005/Atom\">\n" ++ (atom_head feed ++ (updated_line (updated plan own)
+    ++ (flat_map (atom_entry plan feed.root) own ++ codes "</feed>\n")))
+
+-- ---- RSS
+
+abbrev pub rss_dates : Bytes
+rss_dates = codes "%a, %d %b %Y %H:%M:%S"
+
+abbrev pub link_line : Bytes → Bytes
+link_line link = element (codes "<link>") link (codes "</link>\n")
+
+abbrev pub rss_head : FeedRule → Bytes
+rss_head feed =
+    title_line feed.title
+    ++ (link_line (slash_after feed.root) ++ element (codes "<description>") feed.description (codes "</description>\n"))
+
+abbrev pub rss_links : Bytes → Bytes
+rss_links link = link_line link ++ element (codes "<guid>") link (codes "</guid>\n")
+
+abbrev pub date_line : Bytes → Bytes
+date_line date = element (codes "<pubDate>") date (codes " GMT</pubDate>\n")
+
+-- the body of the page, and the end of the item
+abbrev pub body_lines : Entry → Bytes
+body_lines entry = element (codes "<description>") entry.page.body (codes "</description>\n</item>\n")
+
+abbrev pub rss_item : Lookups → Bytes → Entry → Bytes
+rss_item plan root entry =
+    codes "<item>\n" ++ (title_line (title_at plan entry.item) ++ (rss_links (link_of plan root entry.item)
+    ++ (date_line (date_text plan rss_dates entry.item) ++ body_lines entry)))
+
+abbrev pub rss_text : Lookups → FeedRule → List Entry → Bytes
+rss_text plan feed own =
+    codes "<rss version=\"2.0\"><channel>\n" ++ (rss_head feed ++ (flat_map (rss_item plan feed.root) own ++ codes "</channel></rss>\n"))
+
+abbrev pub text_of_kind : Lookups → FeedRule → List Entry → FeedKind → Bytes
+text_of_kind plan feed own Atom = atom_text plan feed own
+text_of_kind plan feed own Rss = rss_text plan feed own
+
+-- the text of a feed, by the pages that are known
+unfoldable pub feed_text : Lookups → List (Option Page) → FeedRule → Bytes
+feed_text plan pages feed = first_line ++ text_of_kind plan feed (entries plan pages feed) feed.kind

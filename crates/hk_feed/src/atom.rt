@@ -1,0 +1,158 @@
+// Atom feeds.
+ghost use Rattle.std.specs.Prelude.{◌≡◌, ◌++◌, ◌<◌, IfOk, OnOk, All, length};
+ghost use Rattle.std.specs.List.{flat_map};
+ghost use Rattle.std.specs.String.{string_bytes};
+ghost use Rattle.hk_rules.specs.Plan.{lookups};
+ghost use Rattle.hk_feed.specs.FeedText as spec;
+
+use crate::entries::Entry;
+use crate::feed_rule::FeedRule;
+use crate::lines::{append, date_text, joined, link_of, link_to, write_element, write_title};
+use crate::title::title_at;
+use hk_base::{NoMemory, Text};
+use hk_rules::Plan;
+use std::alloc::Global;
+
+const DATES: &[u8] = b"%Y-%m-%dT%H:%M:%SZ";
+
+/// What follows the first line of an Atom feed.
+pub(crate) fn write_atom(
+    alloc: Global,
+    out: &mut String,
+    plan: &Plan,
+    feed: &FeedRule,
+    entries: &[Entry],
+) -> Result<(), NoMemory>
+    requires { All (λ entry. entry.item < length plan.now.items) entries.now }
+    ensures { OnOk result (string_bytes out.new ≡ string_bytes out.old ++ spec.atom_text (lookups plan.now) feed.now entries.now) }
+{
+    let date = updated(alloc, plan, entries)?;
+    append(out, "<feed xmlns=\"http://www.w3.org/2005/Atom\">\n")?;
+    write_head(alloc, out, feed)?;
+    write_updated(alloc, out, date.as_slice())?;
+    write_entries(alloc, out, plan, feed.root.as_slice(), entries)?;
+    append(out, "</feed>\n")
+}
+
+fn write_head(alloc: Global, out: &mut String, feed: &FeedRule) -> Result<(), NoMemory>
+    ensures { OnOk result (string_bytes out.new ≡ string_bytes out.old ++ spec.atom_head feed.now) }
+{
+    let root = feed.root.as_slice();
+    let itself = link_to(alloc, root, feed.target.as_slice())?;
+    write_title(alloc, out, feed.title.as_slice())?;
+    write_element(
+        alloc,
+        out,
+        "<subtitle>",
+        feed.description.as_slice(),
+        "</subtitle>\n",
+    )?;
+    write_self(alloc, out, root, &itself)?;
+    write_author(alloc, out, feed)
+}
+
+/// The feed's own address, that of the site, and the feed's id.
+fn write_self(alloc: Global, out: &mut String, root: &[u8], itself: &[u8]) -> Result<(), NoMemory>
+    ensures { OnOk result (string_bytes out.new ≡ string_bytes out.old ++ spec.self_lines root.now itself.now) }
+{
+    let site = joined(alloc, root, b"/")?;
+    write_element(alloc, out, "<link href=\"", itself, "\" rel=\"self\"/>\n")?;
+    write_element(alloc, out, "<link href=\"", &site, "\"/>\n")?;
+    write_id(alloc, out, itself)
+}
+
+fn write_author(alloc: Global, out: &mut String, feed: &FeedRule) -> Result<(), NoMemory>
+    ensures { OnOk result (string_bytes out.new ≡ string_bytes out.old ++ spec.author_line feed.now) }
+{
+    let author = feed.author.as_slice();
+    write_element(alloc, out, "<author><name>", author, "</name>")?;
+    write_email(alloc, out, &feed.email)?;
+    append(out, "</author>\n")
+}
+
+fn write_email(alloc: Global, out: &mut String, email: &Option<Text>) -> Result<(), NoMemory>
+    ensures { OnOk result (string_bytes out.new ≡ string_bytes out.old ++ spec.email_text email.now) }
+{
+    match email {
+        Some(email) => write_element(alloc, out, "<email>", email.as_slice(), "</email>"),
+        None => Ok(()),
+    }
+}
+
+/// The date of the first entry, or that at which time began.
+fn updated(alloc: Global, plan: &Plan, entries: &[Entry]) -> Result<Text, NoMemory>
+    requires { All (λ entry. entry.item < length plan.now.items) entries.now }
+    ensures { IfOk result (λ text. text ≡ spec.updated (lookups plan.now) entries.now) }
+{
+    match entries.first() {
+        Some(first) => date_text(alloc, plan, DATES, first.item),
+        None => Text::from_slice(alloc, b"1970-01-01T00:00:00Z"),
+    }
+}
+
+fn write_updated(alloc: Global, out: &mut String, date: &[u8]) -> Result<(), NoMemory>
+    ensures { OnOk result (string_bytes out.new ≡ string_bytes out.old ++ spec.updated_line date.now) }
+{
+    write_element(alloc, out, "<updated>", date, "</updated>\n")
+}
+
+fn write_id(alloc: Global, out: &mut String, link: &[u8]) -> Result<(), NoMemory>
+    ensures { OnOk result (string_bytes out.new ≡ string_bytes out.old ++ spec.id_line link.now) }
+{
+    write_element(alloc, out, "<id>", link, "</id>\n")
+}
+
+fn write_entries(
+    alloc: Global,
+    out: &mut String,
+    plan: &Plan,
+    root: &[u8],
+    entries: &[Entry],
+) -> Result<(), NoMemory>
+    requires { All (λ entry. entry.item < length plan.now.items) entries.now }
+    ensures { OnOk result (string_bytes out.new ≡ string_bytes out.old ++ flat_map (spec.atom_entry (lookups plan.now) root.now) entries.now) }
+{
+    for entry in entries {
+        write_entry(alloc, out, plan, root, entry)?;
+    }
+    Ok(())
+}
+
+fn write_entry(
+    alloc: Global,
+    out: &mut String,
+    plan: &Plan,
+    root: &[u8],
+    entry: &Entry,
+) -> Result<(), NoMemory>
+    requires { entry.now.item < length plan.now.items }
+    ensures { OnOk result (string_bytes out.new ≡ string_bytes out.old ++ spec.atom_entry (lookups plan.now) root.now entry.now) }
+{
+    let link = link_of(alloc, plan, root, entry.item)?;
+    let date = date_text(alloc, plan, DATES, entry.item)?;
+    append(out, "<entry>\n")?;
+    write_title(alloc, out, title_at(plan, entry.item))?;
+    write_links(alloc, out, &link)?;
+    write_updated(alloc, out, date.as_slice())?;
+    write_content(alloc, out, entry)
+}
+
+fn write_links(alloc: Global, out: &mut String, link: &[u8]) -> Result<(), NoMemory>
+    ensures { OnOk result (string_bytes out.new ≡ string_bytes out.old ++ spec.atom_links link.now) }
+{
+    write_element(alloc, out, "<link href=\"", link, "\"/>\n")?;
+    write_id(alloc, out, link)
+}
+
+fn write_content(alloc: Global, out: &mut String, entry: &Entry) -> Result<(), NoMemory>
+    ensures { OnOk result (string_bytes out.new ≡ string_bytes out.old ++ spec.content_lines entry.now) }
+{
+    let body = entry.page.get().body.as_slice();
+    write_element(
+        alloc,
+        out,
+        "<content type=\"html\">",
+        body,
+        "</content>\n</entry>\n",
+    )
+}
