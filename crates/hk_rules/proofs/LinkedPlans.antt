@@ -16,6 +16,7 @@ use Rattle.hk_meta.specs.declared.answer.Split.{Split}
 use Rattle.hk_pattern.specs.Pattern.{matches}
 use Rattle.hk_pattern.specs.declared.pattern.Pattern.{Pattern}
 use Rattle.hk_rules_file.specs.Linked.{IsLinkedChain, IsLinked}
+use Rattle.hk_rules_file.specs.declared.tables.FeedRule.{FeedRule}
 use Rattle.hk_rules.specs.LinkedPlan.{AreLinkedItems, IsLinkedPlan}
 use Rattle.hk_rules.specs.Pairs.{IsShort}
 use Rattle.hk_rules.specs.PlanView.{PlanView}
@@ -107,8 +108,8 @@ enough-linked rules sources items h (same e) few = subst (LinkedItems rules) (sy
 enough-linked rules sources items h (many long all) few = absurd (omega arith)
 
 -- the plan of linked items
-pub plan_by-linked : (contexts : List ContextView) (patterns : List Pattern) (items : List Claim) (headers : List Split) (targets : List (Option Bytes)) → AreLinkedItems contexts patterns items → IsLinkedPlan (plan_by contexts patterns items headers targets)
-plan_by-linked contexts patterns items headers targets h = record { chains = h.chains; named = h.named }
+pub plan_by-linked : (contexts : List ContextView) (patterns : List Pattern) (feeds : List FeedRule) (items : List Claim) (headers : List Split) (targets : List (Option Bytes)) → AreLinkedItems contexts patterns items → IsLinkedPlan (plan_by contexts patterns feeds items headers targets)
+plan_by-linked contexts patterns feeds items headers targets h = record { chains = h.chains; named = h.named }
 
 -- the chains of a linked plan are short
 pub chains-short : (plan : PlanView) → IsLinkedPlan plan → AllByRecursion IsShort plan.items

@@ -20,6 +20,7 @@ pub record IsPlanOf (rules : RulesView) (files : List (Bytes × Bytes)) (plan : 
   pub items : plan.items ≡ universe (sources_of files) rules.rules
   pub contexts : plan.contexts ≡ rules.contexts
   pub patterns : plan.patterns ≡ rules.patterns
+  pub feeds : plan.feeds ≡ rules.feeds
   pub counted : count_fault plan.items ≡ None
   pub headers : each header_of plan.items ≡ Ok plan.headers
   pub targets : each target_of plan.items ≡ Ok plan.targets
@@ -40,18 +41,19 @@ pub plan_of-inverse : (rules : RulesView) (files : List (Bytes × Bytes)) (plan 
 unfolding plan_of
 plan_of-inverse rules files plan e =
     let us = universe (sources_of files) rules.rules in
-    let a = passed (name_fault files) (plan_items rules.contexts rules.patterns us) plan e in
-    let b = passed (count_fault us) (plan_counted rules.contexts rules.patterns us) plan a.1 in
-    let h = went_on (each header_of us) (plan_headed rules.contexts rules.patterns us) plan b.1 in
-    let t = went_on (each target_of us) (plan_routed rules.contexts rules.patterns us h.0) plan h.1.1 in
-    let ok : Result PlanView PlanFault = Ok (plan_by rules.contexts rules.patterns us h.0 t.0) in
+    let a = passed (name_fault files) (plan_items rules.contexts rules.patterns rules.feeds us) plan e in
+    let b = passed (count_fault us) (plan_counted rules.contexts rules.patterns rules.feeds us) plan a.1 in
+    let h = went_on (each header_of us) (plan_headed rules.contexts rules.patterns rules.feeds us) plan b.1 in
+    let t = went_on (each target_of us) (plan_routed rules.contexts rules.patterns rules.feeds us h.0) plan h.1.1 in
+    let ok : Result PlanView PlanFault = Ok (plan_by rules.contexts rules.patterns rules.feeds us h.0 t.0) in
     let k = passed (clash_fault (sites us t.0)) ok plan t.1.1 in
-    let is = same-ok ok (plan_by rules.contexts rules.patterns us h.0 t.0) plan refl k.1 in
+    let is = same-ok ok (plan_by rules.contexts rules.patterns rules.feeds us h.0 t.0) plan refl k.1 in
     subst (IsPlanOf rules files) is (record {
       named = a.0;
       items = refl;
       contexts = refl;
       patterns = refl;
+      feeds = refl;
       counted = b.0;
       headers = h.1.0;
       targets = t.1.0;

@@ -15,6 +15,7 @@ use hk_base::{Identifier, NoMemory, Shared, Text};
 use hk_chain::{Chain, Context, ContextNo, ItemNo, Layout, PairNo, PatternNo};
 use hk_meta::{Metadata, Split};
 use hk_pattern::Pattern;
+use hk_rules_file::FeedRule;
 use std::alloc::Global;
 use std::marker::Model;
 
@@ -28,6 +29,7 @@ pub struct Plan {
     targets: Vec<Option<Text>>,
     contexts: Vec<Context>,
     patterns: Vec<Pattern>,
+    feeds: Vec<FeedRule>,
     layout: Shared<Layout>,
 }
 
@@ -45,9 +47,9 @@ impl Model for Plan {
 
     ghost coded = { Prim.hlevel (codes, pattern.the_row.coded, route.the_row.coded) };
 
-    ghost view = { λ p. plan_by p.contexts.items p.patterns.items p.items.items p.headers.items p.targets.items };
+    ghost view = { λ p. plan_by p.contexts.items p.patterns.items p.feeds.items p.items.items p.headers.items p.targets.items };
 
-    ghost invariant = { λ p. let plan = plan_by p.contexts.items p.patterns.items p.items.items p.headers.items p.targets.items in IsPlan plan × IsLinkedPlan plan × (p.layout ≡ pairs.layout p.items.items) };
+    ghost invariant = { λ p. let plan = plan_by p.contexts.items p.patterns.items p.feeds.items p.items.items p.headers.items p.targets.items in IsPlan plan × IsLinkedPlan plan × (p.layout ≡ pairs.layout p.items.items) };
 }
 
 impl Plan {
@@ -59,10 +61,11 @@ impl Plan {
         targets: Vec<Option<Text>>,
         contexts: Vec<Context>,
         patterns: Vec<Pattern>,
+        feeds: Vec<FeedRule>,
     ) -> Result<Plan, NoMemory>
-        requires plan { IsPlan (plan_by contexts.items patterns.items items.items headers.items targets.items) }
-        requires linked { IsLinkedPlan (plan_by contexts.items patterns.items items.items headers.items targets.items) }
-        ensures { IfOk result (λ p. p ≡ plan_by contexts.items patterns.items items.items headers.items targets.items) }
+        requires plan { IsPlan (plan_by contexts.items patterns.items feeds.items items.items headers.items targets.items) }
+        requires linked { IsLinkedPlan (plan_by contexts.items patterns.items feeds.items items.items headers.items targets.items) }
+        ensures { IfOk result (λ p. p ≡ plan_by contexts.items patterns.items feeds.items items.items headers.items targets.items) }
     {
         let layout = layout_of(alloc, &items)?;
         let layout = Shared::new(alloc, layout)?;
@@ -72,6 +75,7 @@ impl Plan {
             targets,
             contexts,
             patterns,
+            feeds,
             layout,
         })
     }
@@ -184,6 +188,13 @@ impl Plan {
         ensures { result.now ≡ (lookups self.now).pattern number }
     {
         &self.patterns[number.0 as usize]
+    }
+
+    /// The feeds that are made of the pages, in the order of the rules file. Constant.
+    pub fn feeds(&self) -> &[FeedRule]
+        ensures { result.now ≡ self.now.feeds }
+    {
+        self.feeds.as_slice()
     }
 
     /// How many patterns there are. Constant.

@@ -23,14 +23,15 @@ use hk_base::{Identifier, Refusal, Text, is_path};
 use hk_chain::Context;
 use hk_meta::Split;
 use hk_pattern::Pattern;
-use hk_rules_file::Rules;
+use hk_rules_file::{FeedRule, Rules};
 use std::alloc::Global;
 
-/// What rules and contexts name by number.
+/// What rules and contexts name by number, and the feeds of their pages.
 #[derive(Drop)]
 struct Named {
     contexts: Vec<Context>,
     patterns: Vec<Pattern>,
+    feeds: Vec<FeedRule>,
 }
 
 /// The plan that rules make of the files of a folder, which are to be in path order and none of them ignored.
@@ -63,10 +64,16 @@ pub fn make_plan(
         rules,
         contexts,
         patterns,
+        feeds,
         ..
     } = rules;
     let items = universe(alloc, rules, &sources)?;
-    plan_items(alloc, Named { contexts, patterns }, items)
+    let named = Named {
+        contexts,
+        patterns,
+        feeds,
+    };
+    plan_items(alloc, named, items)
 }
 
 fn plan_items(
@@ -76,7 +83,7 @@ fn plan_items(
 ) -> Result<Plan, Refusal<PlanFault>>
     requires sorted { IsStrictlySortedBy ident_cmp (keys_of items.items) }
     requires linked { length items.items ≤ 65535 → AreLinkedItems named.contexts.items named.patterns.items items.items }
-    ensures { Answers (spec.plan_items named.contexts.items named.patterns.items items.items) result }
+    ensures { Answers (spec.plan_items named.contexts.items named.patterns.items named.feeds.items items.items) result }
 {
     check_count(&items)?;
     let headers = headers_of(alloc, &items)?;
@@ -93,7 +100,7 @@ fn plan_headed(
     requires few { length items.items ≤ 65535 }
     requires headed { length headers.items ≡ length items.items }
     requires linked { AreLinkedItems named.contexts.items named.patterns.items items.items }
-    ensures { Answers (spec.plan_headed named.contexts.items named.patterns.items items.items headers.items) result }
+    ensures { Answers (spec.plan_headed named.contexts.items named.patterns.items named.feeds.items items.items headers.items) result }
 {
     let targets = targets_of(alloc, &items)?;
     plan_routed(alloc, named, items, headers, targets)
@@ -111,11 +118,15 @@ fn plan_routed(
     requires headed { length headers.items ≡ length items.items }
     requires routed { length targets.items ≡ length items.items }
     requires linked { AreLinkedItems named.contexts.items named.patterns.items items.items }
-    ensures { Answers (spec.plan_routed named.contexts.items named.patterns.items items.items headers.items targets.items) result }
+    ensures { Answers (spec.plan_routed named.contexts.items named.patterns.items named.feeds.items items.items headers.items targets.items) result }
 {
     check_targets(alloc, &items, &targets)?;
-    let Named { contexts, patterns } = named;
-    let plan = Plan::of_parts(alloc, items, headers, targets, contexts, patterns)?;
+    let Named {
+        contexts,
+        patterns,
+        feeds,
+    } = named;
+    let plan = Plan::of_parts(alloc, items, headers, targets, contexts, patterns, feeds)?;
     Ok(plan)
 }
 
