@@ -1,6 +1,5 @@
 -- The pages of a plan, put in order one after another, the last item's first.
-use Rattle.std.proofs.Common.{◌≡◌, ℕ, ◌+◌, ◌<◌, ◌≤◌, ◌==◌, Bool, true, false, ◌&&◌, cond, length, List, [], ◌∷◌, ◌++◌, eqb-true, map, Option, Some, None, Result, Ok, Err, IfOk, Vec, refl, sym, ap, subst, ◌∙◌, arith, length-append}
-use Rattle.std.specs.Prelude.{T, is_some}
+use Rattle.std.proofs.Common.{◌≡◌, ℕ, ◌+◌, ◌<◌, ◌≤◌, ◌==◌, Bool, true, false, ◌&&◌, cond, length, List, [], ◌∷◌, ◌++◌, eqb-true, map, Option, Some, None, Result, Ok, Err, IfOk, Vec, refl, sym, ap, subst, ◌∙◌, arith, take, take_all, get_or}
 use Rattle.std.specs.declared.alloc.Global.{Global}
 use Rattle.std.specs.Ordering.{nat_cmp, match_ordering}
 use Rattle.std.specs.Cmp.Lexicographic.{slice_cmp, nat_list_cmp_total}
@@ -10,10 +9,10 @@ use Rattle.std.specs.BTreeMap.{insert_entry}
 use Rattle.std.specs.declared.cmp.Ordering.{Ordering}
 use Rattle.std.specs.declared.cmp.Ordering.TheVariants.{Less, Equal, Greater}
 use Rattle.std.specs.FinMap.{entries, from_entries, entries-insert}
-use Rattle.std.specs.FinMap.Entries.{find, put, by_order, is_sorted, is_sorted-put, length-put}
-use Rattle.std.proofs.lemmas.List.{map-append, nil_from_length}
+use Rattle.std.specs.FinMap.Entries.{put, by_order}
+use Rattle.std.proofs.lemmas.List.{map-append, nil_from_length, take_more}
 use Rattle.std.proofs.lemmas.Simd.{map-map}
-use Rattle.hk_base.specs.Bytes.{Bytes, ascends, paths_of}
+use Rattle.hk_base.specs.Bytes.{Bytes, Files, ascends, paths_of}
 use Rattle.hk_base.proofs.Both.{left-part, right-part}
 use Rattle.hk_base.proofs.Entries.{entries-from_entries}
 use Rattle.hk_base.proofs.Ascending.{ascends-entries}
@@ -25,17 +24,19 @@ use Rattle.hk_fix.specs.Fix.{Ending, finished, faulted, waiting, is_finished}
 use Rattle.hk_fix.specs.Pages as known
 use Rattle.hk_fix.specs.Report.{ReportView, upto, IsEmptyReport}
 use Rattle.hk_fix.specs.Results.{ResultsView}
+use Rattle.hk_fix.specs.Site as files
 use Rattle.hk_fix.specs.Site.{file_of}
 use Rattle.hk_fix.proofs.Empties.{empty-iff}
 use Rattle.hk_machine.specs.Machine.{plan_shape}
 use Rattle.hk_reuse.specs.Entries.{Entries}
 use Rattle.hk_rules.specs.PlanView.{PlanView}
 use Rattle.hk_rules.specs.Plan.{lookups}
+use Rattle.hk_rules_file.specs.declared.tables.FeedRule.{FeedRule}
 use Rattle.hk_writer.specs.declared.page_out.PageOut.{PageOut}
 use Rattle.hk_writer.specs.Pages.{pages_of}
-use Rattle.hk_build.specs.Build.{ending, endings, is_empty, pages, report, site_of}
+use Rattle.hk_build.specs.Build.{ending, endings, feed_files, is_empty, pages, report, site_of, with_files}
 use Rattle.hk_build.specs.Built.{AreResults}
-use Rattle.hk_build.specs.Pages.{bodies, in_order, page_at, pages_at, placed, placed_out, with_page}
+use Rattle.hk_build.specs.Pages.{bodies, feed_page, feed_pages, in_order, item_pages, over, page_at, pages_at, placed, placed_out, with_page}
 use Rattle.hk_build.proofs.Numbers.{at-upto, count-upto, flat-more, flat-upto, shape-items}
 
 abbrev R : Bytes → Bytes → Ordering
@@ -45,11 +46,6 @@ R = slice_cmp nat_cmp
 pub insert-put : (es : List (Bytes × Page)) (k : Bytes) (page : Page) → insert_entry R es k page ≡ put R k page es
 insert-put [] k v = refl
 insert-put (e ∷ es) k v = elim (R k e.0) as (λ o. match_ordering o ((k, v) ∷ e ∷ es) ((e.0, v) ∷ es) (e ∷ insert_entry R es k v) ≡ by_order o ((k, v) ∷ e ∷ es) ((e.0, v) ∷ es) (e ∷ put R k v es)) [ Less ↦ refl | Equal ↦ refl | Greater ↦ ap (λ t. e ∷ t) (insert-put es k v) ]
-
--- pages put over others, the last one first
-abbrev pub over : List (Bytes × Page) → List (Bytes × Page) → List (Bytes × Page)
-over [] m = m
-over (e ∷ es) m = put R e.0 e.1 (over es m)
 
 over-append : (es ds m : List (Bytes × Page)) → over (es ++ ds) m ≡ over es (over ds m)
 over-append [] ds m = refl
@@ -71,7 +67,7 @@ module _ (plan : PlanView) (k : known.Pages) where
   abbrev pub pages-upto : ℕ → List (Bytes × Page)
   pages-upto n = flat_map page-list (upto n)
 
-  pub pages-first : over (pages-upto (length plan.items)) [] ≡ pages_at plan k
+  pub pages-first : over (pages-upto (length plan.items)) [] ≡ item_pages plan k
   pages-first = over-nothing (pages-upto (length plan.items))
 
   -- the page of one more item is put
@@ -91,6 +87,13 @@ bodies-order : (es : List (Bytes × Page)) → bodies (in_order es) ≡ entries 
 bodies-order [] = sym (entries-from_entries [] tt)
 bodies-order (e ∷ es) = bodies-put (in_order es) e.0 e.1 ∙ ap (put R e.0 e.1.body) (bodies-order es) ∙ sym (entries-insert nat_list_cmp_total (from_entries (bodies es)) e.0 e.1.body)
 
+-- pages over others are files over others
+bodies-over : (es ds : List (Bytes × Page)) (m : Files) → bodies ds ≡ entries m → bodies (over es ds) ≡ entries (with_files (bodies es) m)
+bodies-over [] ds m h = h
+bodies-over (e ∷ es) ds m h =
+    bodies-put (over es ds) e.0 e.1 ∙ ap (put R e.0 e.1.body) (bodies-over es ds m h)
+    ∙ sym (entries-insert nat_list_cmp_total (with_files (bodies es) m) e.0 e.1.body)
+
 bodies-flat : (f : ℕ → List (Bytes × Page)) (ns : List ℕ) → flat_map (λ i. bodies (f i)) ns ≡ bodies (flat_map f ns)
 bodies-flat f [] = refl
 bodies-flat f (n ∷ ns) = ap (λ l. bodies (f n) ++ l) (bodies-flat f ns) ∙ sym (map-append (λ (e : Bytes × Page). (e.0, e.1.body)) (f n) (flat_map f ns))
@@ -101,45 +104,17 @@ ascends-order es =
     ap ascends (sym (map-map (λ (e : Bytes × Bytes). e.0) (λ (e : Bytes × Page). (e.0, e.1.body)) (in_order es)))
     ∙ ap (λ l. ascends (paths_of l)) (bodies-order es) ∙ ascends-entries (from_entries (bodies es))
 
--- there are no more than items
-sorted-order : (es : List (Bytes × Page)) → T (is_sorted R (in_order es))
-sorted-order [] = tt
-sorted-order (e ∷ es) = is_sorted-put R nat_list_cmp_total e.0 e.1 (in_order es) (sorted-order es)
-
-one-more : (b : Bool) (n : ℕ) → cond b n (n + 1) ≤ n + 1
-one-more true n = omega arith
-one-more false n = omega arith
-
-count-order : (es : List (Bytes × Page)) → length (in_order es) ≤ length es
-count-order [] = omega arith
-count-order (e ∷ es) =
-    let put-one = length-put R nat_list_cmp_total e.0 e.1 (in_order es) (sorted-order es) in
-    let rest = count-order es in
-    let more = one-more (is_some (find R e.0 (in_order es))) (length (in_order es)) in
-    omega (arith, put-one, more, rest)
-
-count-option : (o : Option (Bytes × Page)) → length (option_to_list o) ≤ 1
-count-option None = omega arith
-count-option (Some e) = omega arith
-
-count-flat : (f : ℕ → Option (Bytes × Page)) (ns : List ℕ) → length (flat_map (λ i. option_to_list (f i)) ns) ≤ length ns
-count-flat f [] = omega arith
-count-flat f (n ∷ ns) =
-    omega (arith, length-append (option_to_list (f n)) (flat_map (λ i. option_to_list (f i)) ns), count-option (f n), count-flat f ns)
-
-length-upto : (n : ℕ) → length (upto n) ≡ n
-length-upto n = sym (ap length (map-same (upto n))) ∙ count-upto (λ i. i) n
-  where
-    map-same : (ns : List ℕ) → map (λ i. i) ns ≡ ns
-    map-same [] = refl
-    map-same (m ∷ ms) = ap (λ l. m ∷ l) (map-same ms)
+-- the feeds and the items' pages in order
+pages-order : (plan : PlanView) (k : known.Pages) → pages_at plan k ≡ in_order (feed_pages plan k ++ pages-upto plan k (length plan.items))
+pages-order plan k =
+    let items = pages-upto plan k (length plan.items) in
+    ap (over (feed_pages plan k)) (sym (over-nothing items)) ∙ sym (over-append (feed_pages plan k) items [])
+    ∙ over-nothing (feed_pages plan k ++ items)
 
 pub ascends-pages : (plan : PlanView) (k : known.Pages) → ascends (map (λ (e : Bytes × Page). e.0) (pages_at plan k)) ≡ true
-ascends-pages plan k = ascends-order (flat_map (λ i. option_to_list (page_at plan k i)) (upto (length plan.items)))
-
-pub count-pages : (plan : PlanView) (k : known.Pages) → length (pages_at plan k) ≤ length plan.items
-count-pages plan k =
-    omega (arith, count-order (flat_map (λ i. option_to_list (page_at plan k i)) (upto (length plan.items))), count-flat (page_at plan k) (upto (length plan.items)), length-upto (length plan.items))
+ascends-pages plan k =
+    ap (λ (es : List (Bytes × Page)). ascends (map (λ e. e.0) es)) (pages-order plan k)
+    ∙ ascends-order (feed_pages plan k ++ pages-upto plan k (length plan.items))
 
 -- what a finished item has in the site is its page at its target
 file-done : (target : Option Bytes) (o : Ending) (page : Option Page) → is_finished o ≡ true → file_of target o page ≡ bodies (option_to_list (placed target page))
@@ -167,21 +142,47 @@ module _ (plan : PlanView) (over_entries : Entries) (empty : is_empty (report pl
       sym (ap is_finished (at-upto (ending plan over_entries) (length plan.items) i (waiting []) lt))
       ∙ each i (waiting []) (subst (λ n. i < n) (sym count) lt)
 
-  site-is : site_of plan over_entries ≡ from_entries (bodies (flat_map (λ i. option_to_list (page_at plan (pages plan over_entries) i)) (upto (length plan.items))))
-  site-is =
+  item-files : Files
+  item-files = files.site_of (plan_shape plan) (lookups plan).target_of (ending plan over_entries) (pages plan over_entries)
+
+  items-are : item-files ≡ from_entries (bodies (flat_map (λ i. option_to_list (page_at plan (pages plan over_entries) i)) (upto (length plan.items))))
+  items-are =
       let k = pages plan over_entries in
       ap (λ n. from_entries (flat_map (λ i. file_of ((lookups plan).target_of i) (ending plan over_entries i) (k (final_of (plan_shape plan) i))) (upto n))) (shape-items plan)
       ∙ ap (λ l. from_entries l) (flat-upto (λ i. file_of ((lookups plan).target_of i) (ending plan over_entries i) (k (final_of (plan_shape plan) i))) (λ i. bodies (option_to_list (page_at plan k i))) (length plan.items)
       (λ i lt. file-done ((lookups plan).target_of i) (ending plan over_entries i) (k (final_of (plan_shape plan) i)) (all-finished i lt)))
       ∙ ap (λ l. from_entries l) (bodies-flat (λ i. option_to_list (page_at plan k i)) (upto (length plan.items)))
 
+  feeds-are : bodies (feed_pages plan (pages plan over_entries)) ≡ feed_files plan over_entries
+  feeds-are = sym (map-map (λ (e : Bytes × Page). (e.0, e.1.body)) (feed_page plan (pages plan over_entries)) plan.feeds)
+
   -- the pages of results in order
-  pub site-entries : (r : ResultsView) (outs : List PageOut) → AreResults plan over_entries r → map placed_out outs ≡ pages_at plan (at_place r.pages) → pages_of outs ≡ entries (site_of plan over_entries)
+  pub site-entries : (r : ResultsView) (outs : List PageOut) → AreResults plan over_entries r → map placed_out outs ≡ pages_at plan (at_place r.pages)
+      → pages_of outs ≡ entries (site_of plan over_entries)
   site-entries r outs h e =
       let k = pages plan over_entries in
+      let items = bodies-order (flat_map (λ i. option_to_list (page_at plan k i)) (upto (length plan.items))) ∙ ap entries (sym items-are) in
       sym (map-map (λ (p : Bytes × Page). (p.0, p.1.body)) placed_out outs)
       ∙ ap bodies (e ∙ ap (pages_at plan) h.pages)
-      ∙ bodies-order (flat_map (λ i. option_to_list (page_at plan k i)) (upto (length plan.items))) ∙ ap entries (sym site-is)
+      ∙ bodies-over (feed_pages plan k) (item_pages plan k) item-files items
+      ∙ ap (λ fs. entries (with_files fs item-files)) feeds-are
+
+-- a feed more is put
+module _ (plan : PlanView) (k : known.Pages) where
+  abbrev pub feeds-upto : ℕ → List (Bytes × Page)
+  feeds-upto n = map (feed_page plan k) (take n plan.feeds)
+
+  pub feeds-first : (n : ℕ) (m : List (Bytes × Page)) → n ≡ length plan.feeds → over (feeds-upto n) m ≡ over (feed_pages plan k) m
+  feeds-first n m all = ap (λ fs. over (map (feed_page plan k) fs) m) (take_all n plan.feeds (omega (arith, all)))
+
+  -- one feed more is put
+  pub feeds-turn : (i : ℕ) (feed : FeedRule) (m m' all : List (Bytes × Page)) → i < length plan.feeds → feed ≡ get_or plan.feeds i feed
+      → m' ≡ put R (feed_page plan k feed).0 (feed_page plan k feed).1 m → over (feeds-upto (i + 1)) m ≡ all → over (feeds-upto i) m' ≡ all
+  feeds-turn i feed m m' all within is put so =
+      ap (over (feeds-upto i)) put ∙ sym (over-append (feeds-upto i) (feed_page plan k feed ∷ []) m)
+      ∙ ap (λ l. over l m) (sym (map-append (feed_page plan k) (take i plan.feeds) (feed ∷ [])))
+      ∙ ap (λ fs. over (map (feed_page plan k) fs) m) (sym (take_more plan.feeds i feed within ∙ ap (λ z. take i plan.feeds ++ z ∷ []) (sym is)))
+      ∙ so
 
 -- pages that are the same in other words
 pub same-pages : (r : Result (Vec PageOut Global) NoMemory) (es fs : List (Bytes × Page)) → es ≡ fs → IfOk r (λ v. map placed_out v.items ≡ es) → IfOk r (λ v. map placed_out v.items ≡ fs)

@@ -1,7 +1,9 @@
 -- A build of a plan over stored entries: its pages, how its items end, its report, its site, and the store that it leaves.
-use Rattle.std.specs.Prelude.{ℕ, ◌==◌, Bool, ◌&&◌, List, length, map, filter}
+use Rattle.std.specs.Prelude.{ℕ, ◌==◌, Bool, ◌&&◌, List, [], ◌∷◌, length, map, filter}
+use Rattle.std.specs.FinMap.{insert}
 use Rattle.hk_base.specs.Bytes.{Bytes, Files}
 use Rattle.hk_chain.specs.declared.page.Page.{Page}
+use Rattle.hk_feed.specs.FeedText.{feed_text}
 use Rattle.hk_fix.specs.declared.event.Event.{Event}
 use Rattle.hk_fix.specs.Fix.{Ending, Seeds}
 use Rattle.hk_fix.specs.Pages.{Pages}
@@ -14,6 +16,7 @@ use Rattle.hk_reuse.specs.Histories.{others}
 use Rattle.hk_reuse.specs.Kept as kept
 use Rattle.hk_rules.specs.PlanView.{PlanView}
 use Rattle.hk_rules.specs.Plan.{lookups}
+use Rattle.hk_rules_file.specs.declared.tables.FeedRule.{FeedRule}
 use Rattle.hk_sites.specs.PlanSite.{items_of}
 use Rattle.hk_sites.specs.Rebuilding.{ends_by, keeps, list_by, pages_by, run_over, seeds_of_kept}
 use Rattle.hk_store.specs.StoreText.{sealed, store_text}
@@ -22,6 +25,15 @@ use Rattle.hk_store.specs.Traits.{sha_digests}
 -- there is nothing to report
 abbrev pub is_empty : ReportView → Bool
 is_empty r = (length r.failed == 0) && ((length r.cycles == 0) && (length r.blocked == 0))
+
+-- files put over others, the last one first
+abbrev pub with_files : List (Bytes × Bytes) → Files → Files
+with_files [] m = m
+with_files (file ∷ files) m = insert (with_files files m) file.0 file.1
+
+-- a feed's target and its text, by the pages that are known
+abbrev pub feed_file : PlanView → Pages → FeedRule → Bytes × Bytes
+feed_file plan pages feed = (feed.target, feed_text (lookups plan) pages feed)
 
 module _ (plan : PlanView) (entries : Entries) where
   -- what an item's compiler does under known pages: it replays its entry, where that fits, and else its chain
@@ -43,9 +55,13 @@ module _ (plan : PlanView) (entries : Entries) where
   abbrev pub report : ReportView
   report = report_of (plan_shape plan) endings
 
-  -- the site: the files of the finished items that have a target
+  -- the feeds at their targets
+  abbrev pub feed_files : List (Bytes × Bytes)
+  feed_files = map (feed_file plan pages) plan.feeds
+
+  -- the site: the files of the finished items that have a target, and the feeds
   abbrev pub site_of : Files
-  site_of = files.site_of (plan_shape plan) (lookups plan).target_of ending pages
+  site_of = with_files feed_files (files.site_of (plan_shape plan) (lookups plan).target_of ending pages)
 
   -- the bytes of the store
   unfoldable pub image : Bytes

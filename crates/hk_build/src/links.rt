@@ -28,6 +28,10 @@ pub fn link_lines(alloc: Global, plan: &Plan, results: &Results) -> Result<LinkL
     let _items = plan.count();
     let outs = site_pages(alloc, plan, results)?;
     let (targets, pages) = apart(alloc, outs)?;
+    // a number of 32 bits stands for each page
+    if targets.len() > u32::MAX as usize {
+        return Err(NoMemory);
+    }
     let report = check_links(alloc, &targets, &pages)?;
     Ok(LinkLines {
         text: links_text(alloc, &targets, &report)?,

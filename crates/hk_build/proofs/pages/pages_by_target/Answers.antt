@@ -1,7 +1,7 @@
 use Rattle.std.proofs.Common.{◌≡◌, sym, ap, ◌∙◌, ◌+◌, ◌-◌, arith, length, option_map}
 use Rattle.hk_chain.specs.Kept.{at_place}
-use Rattle.hk_build.specs.Pages.{placed_out}
-use Rattle.hk_build.proofs.PageMaps.{over, pages-upto, pages-first, pages-turn}
+use Rattle.hk_build.specs.Pages.{over, placed_out}
+use Rattle.hk_build.proofs.PageMaps.{pages-upto, pages-first, pages-turn}
 use Rattle.hk_build.proofs.pages.pages_by_target.Goals as goal
 
 pub loop-item-init : goal.loop-item-init
