@@ -12,7 +12,7 @@ use Rattle.hk_feed.specs.Accepted.{IsAccepted}
 use Rattle.hk_feed.specs.FeedFaults.{is_taken, target_fault, lacks_snapshot, lacks_date, no_snapshot, no_date, snapshot_fault, date_fault, feed_fault, later_fault, feeds_fault}
 use Rattle.hk_feed.specs.Members.{members, date_at}
 use Rattle.hk_feed.specs.Recent.{Dated, dated_by, dated, item_in}
-use Rattle.hk_feed.specs.declared.feed_rule.FeedRule.{FeedRule}
+use Rattle.hk_rules_file.specs.declared.tables.FeedRule.{FeedRule}
 use Rattle.hk_feed.specs.declared.feed_fault.FeedFault.{FeedFault}
 use Rattle.hk_feed.specs.declared.feed_fault.FeedFault.TheVariants.{BadTarget, Taken}
 

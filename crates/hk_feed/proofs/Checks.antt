@@ -7,7 +7,7 @@ use Rattle.hk_base.specs.declared.refusal.Refusal.TheVariants.{Fault, NoMemory}
 use Rattle.hk_rules.specs.Outcomes.{Passes}
 use Rattle.hk_rules.specs.Plan.{Lookups}
 use Rattle.hk_feed.specs.FeedFaults.{feed_fault, later_fault}
-use Rattle.hk_feed.specs.declared.feed_rule.FeedRule.{FeedRule}
+use Rattle.hk_rules_file.specs.declared.tables.FeedRule.{FeedRule}
 use Rattle.hk_feed.specs.declared.feed_fault.FeedFault.{FeedFault}
 use Rattle.hk_feed.proofs.Lists.{rest-from}
 

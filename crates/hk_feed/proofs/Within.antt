@@ -11,11 +11,12 @@ use Rattle.hk_chain.specs.declared.page.Kind.{Kind}
 use Rattle.hk_chain.specs.declared.page.Kind.TheVariants as kinds
 use Rattle.hk_chain.specs.declared.page.Page.{Page}
 use Rattle.hk_meta.specs.declared.date.Moment.{Moment}
+use Rattle.hk_fix.specs.Pages.{Pages}
 use Rattle.hk_rules.specs.Plan.{Lookups}
 use Rattle.hk_feed.specs.Entries.{Entry, entry_of_kind, entry_by, page_by, entries_of, entries}
 use Rattle.hk_feed.specs.Members.{is_member, members, date_at}
 use Rattle.hk_feed.specs.Recent.{Dated, dated_by, dated, moment_cmp, put_dated, by_date, item_in, latest_first, recent}
-use Rattle.hk_feed.specs.declared.feed_rule.FeedRule.{FeedRule}
+use Rattle.hk_rules_file.specs.declared.tables.FeedRule.{FeedRule}
 
 pub members-within : (plan : Lookups) (feed : FeedRule) → All (λ item. item < plan.count) (members plan feed)
 members-within plan feed =
@@ -62,14 +63,14 @@ module _ (P : ℕ → Type 0) where
   entry-one item None es p h = h
   entry-one item (Some page) es p h = entry-kind item page page.kind es p h
 
-  entries-all : (plan : Lookups) (pages : List (Option Page)) (name : Bytes) (items : List ℕ) → AllByRecursion P items → AllEntries (entries_of plan pages name items)
+  entries-all : (plan : Lookups) (pages : Pages) (name : Bytes) (items : List ℕ) → AllByRecursion P items → AllEntries (entries_of plan pages name items)
   entries-all plan pages name [] h = h
   entries-all plan pages name (item ∷ items) h = entry-one item (page_by pages (plan.pair item name)) (entries_of plan pages name items) h.0 (entries-all plan pages name items h.1)
 
 pub recent-within : (plan : Lookups) (feed : FeedRule) → All (λ item. item < plan.count) (recent plan feed)
 recent-within plan feed = latest-all (λ item. item < plan.count) plan (members plan feed) (members-within plan feed)
 
-pub entries-within : (plan : Lookups) (pages : List (Option Page)) (feed : FeedRule) → All (λ (e : Entry). e.item < plan.count) (entries plan pages feed)
+pub entries-within : (plan : Lookups) (pages : Pages) (feed : FeedRule) → All (λ (e : Entry). e.item < plan.count) (entries plan pages feed)
 entries-within plan pages feed =
     All-from_recursion (λ (e : Entry). e.item < plan.count) (entries plan pages feed) (entries-all (λ item. item < plan.count) plan pages feed.snapshot (take feed.limit (recent plan feed))
     (recursion_from_All (λ item. item < plan.count) (take feed.limit (recent plan feed)) (All-take (λ item. item < plan.count) feed.limit (recent plan feed) (recent-within plan feed))))

@@ -5,7 +5,7 @@ use Rattle.hk_rules.specs.Plan.{Lookups}
 use Rattle.hk_feed.specs.FeedFaults.{is_taken}
 use Rattle.hk_feed.specs.Members.{members}
 use Rattle.hk_feed.specs.Recent.{dated, item_in}
-use Rattle.hk_feed.specs.declared.feed_rule.FeedRule.{FeedRule}
+use Rattle.hk_rules_file.specs.declared.tables.FeedRule.{FeedRule}
 
 -- a feed after these: its target is a path at which nothing else is in the way, and each member has its pair and its date
 pub record IsAccepted (plan : Lookups) (earlier : List FeedRule) (feed : FeedRule) : Type 0 where

@@ -6,7 +6,7 @@ use Rattle.hk_base.specs.Bytes.{Bytes}
 use Rattle.hk_base.specs.Identifier.{is_path}
 use Rattle.hk_rules.specs.Plan.{Lookups}
 use Rattle.hk_feed.specs.Members.{members, date_at}
-use Rattle.hk_feed.specs.declared.feed_rule.FeedRule.{FeedRule}
+use Rattle.hk_rules_file.specs.declared.tables.FeedRule.{FeedRule}
 use Rattle.hk_feed.specs.declared.feed_fault.FeedFault.{FeedFault}
 use Rattle.hk_feed.specs.declared.feed_fault.FeedFault.TheVariants.{BadTarget, Taken, NoSnapshot, NoDate}
 

@@ -1,9 +1,9 @@
 -- The text of a feed. Each line ends with LF.
-use Rattle.std.specs.Prelude.{ℕ, List, [], ◌∷◌, ◌++◌, Option, Some, None, codes}
+use Rattle.std.specs.Prelude.{ℕ, List, [], ◌∷◌, ◌++◌, Option, Some, None, codes, map}
 use Rattle.std.specs.List.{flat_map}
 use Rattle.std.specs.Option.{unwrap_or}
 use Rattle.hk_base.specs.Bytes.{Bytes}
-use Rattle.hk_chain.specs.declared.page.Page.{Page}
+use Rattle.hk_fix.specs.Pages.{Pages}
 use Rattle.hk_html.specs.Url.{url_of}
 use Rattle.hk_meta.specs.DateFormat.{format_date}
 use Rattle.hk_meta.specs.declared.date.Moment.{Moment}
@@ -12,9 +12,9 @@ use Rattle.hk_feed.specs.Entries.{Entry, entries}
 use Rattle.hk_feed.specs.Members.{date_at}
 use Rattle.hk_feed.specs.Titles.{title_at}
 use Rattle.hk_feed.specs.Xml.{xml}
-use Rattle.hk_feed.specs.declared.feed_rule.FeedKind.{FeedKind}
-use Rattle.hk_feed.specs.declared.feed_rule.FeedKind.TheVariants.{Atom, Rss}
-use Rattle.hk_feed.specs.declared.feed_rule.FeedRule.{FeedRule}
+use Rattle.hk_rules_file.specs.declared.tables.FeedKind.{FeedKind}
+use Rattle.hk_rules_file.specs.declared.tables.FeedKind.TheVariants.{Atom, Rss}
+use Rattle.hk_rules_file.specs.declared.tables.FeedRule.{FeedRule}
 
 -- a value between two marks
 abbrev pub element : Bytes → Bytes → Bytes → Bytes
@@ -132,5 +132,13 @@ text_of_kind plan feed own Atom = atom_text plan feed own
 text_of_kind plan feed own Rss = rss_text plan feed own
 
 -- the text of a feed, by the pages that are known
-unfoldable pub feed_text : Lookups → List (Option Page) → FeedRule → Bytes
+unfoldable pub feed_text : Lookups → Pages → FeedRule → Bytes
 feed_text plan pages feed = first_line ++ text_of_kind plan feed (entries plan pages feed) feed.kind
+
+-- the target of a feed with its text
+abbrev pub feed_file : Lookups → Pages → FeedRule → Bytes × Bytes
+feed_file plan pages feed = (feed.target, feed_text plan pages feed)
+
+-- the target of each feed with its text, in the order of the feeds
+abbrev pub feed_files : Lookups → Pages → List FeedRule → List (Bytes × Bytes)
+feed_files plan pages feeds = map (feed_file plan pages) feeds

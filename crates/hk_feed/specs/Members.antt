@@ -7,7 +7,7 @@ use Rattle.hk_meta.specs.declared.date.Moment.{Moment}
 use Rattle.hk_pattern.specs.Pattern.{matches}
 use Rattle.hk_pattern.specs.declared.pattern.Pattern.{Pattern}
 use Rattle.hk_rules.specs.Plan.{Lookups}
-use Rattle.hk_feed.specs.declared.feed_rule.FeedRule.{FeedRule}
+use Rattle.hk_rules_file.specs.declared.tables.FeedRule.{FeedRule}
 
 abbrev pub is_match : Pattern → Ident → Bool
 is_match by id = matches by id.path id.version

@@ -6,7 +6,7 @@ use Rattle.std.specs.declared.cmp.Ordering.{Ordering}
 use Rattle.hk_meta.specs.declared.date.Moment.{Moment}
 use Rattle.hk_rules.specs.Plan.{Lookups}
 use Rattle.hk_feed.specs.Members.{members, date_at}
-use Rattle.hk_feed.specs.declared.feed_rule.FeedRule.{FeedRule}
+use Rattle.hk_rules_file.specs.declared.tables.FeedRule.{FeedRule}
 -- an item with its date
 pub use Rattle.hk_feed.specs.declared.recent.Dated.{Dated}
 

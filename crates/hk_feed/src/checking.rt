@@ -8,7 +8,7 @@ ghost use Rattle.hk_feed.specs.Members.{members as members_of};
 
 use crate::clashes::is_taken;
 use crate::feed_fault::FeedFault;
-use crate::feed_rule::FeedRule;
+use hk_rules_file::FeedRule;
 use crate::members::{date_at, members};
 use hk_base::{NoMemory, Refusal, Text, is_path};
 use hk_chain::ItemNo;

@@ -4,7 +4,7 @@ ghost use Rattle.std.specs.List.{list_any, range_with_len};
 ghost use Rattle.hk_rules.specs.Plan.{lookups};
 ghost use Rattle.hk_feed.specs.FeedFaults as spec;
 
-use crate::feed_rule::FeedRule;
+use hk_rules_file::FeedRule;
 use hk_chain::ItemNo;
 use hk_rules::Plan;
 

@@ -1,10 +1,11 @@
 // The entries of a feed.
 ghost use Rattle.std.specs.Prelude.{◌≡◌, ◌<◌, IfOk, OnOk, ◌++◌, All, length};
 ghost use Rattle.std.specs.Option.{option_map, option_to_list};
+ghost use Rattle.hk_chain.specs.Kept.{at_place};
 ghost use Rattle.hk_rules.specs.Plan.{lookups};
 ghost use Rattle.hk_feed.specs.Entries as spec;
 
-use crate::feed_rule::FeedRule;
+use hk_rules_file::FeedRule;
 use crate::recent::recent;
 use hk_base::NoMemory;
 use hk_chain::{ItemNo, Kind, PageRef};
@@ -25,7 +26,7 @@ pub(crate) fn entries(
     pages: &[Option<PageRef>],
     feed: &FeedRule,
 ) -> Result<Vec<Entry>, NoMemory>
-    ensures entries { IfOk result (λ v. v.items ≡ spec.entries (lookups plan.now) pages.now feed.now) }
+    ensures entries { IfOk result (λ v. v.items ≡ spec.entries (lookups plan.now) (at_place pages.now) feed.now) }
     ensures within { IfOk result (λ v. All (λ entry. entry.item < length plan.now.items) v.items) }
 {
     let mut items = recent(alloc, plan, feed)?;
@@ -41,7 +42,7 @@ fn entries_of(
     items: &[ItemNo],
 ) -> Result<Vec<Entry>, NoMemory>
     requires { All (λ item. item < length plan.now.items) items.now }
-    ensures { IfOk result (λ v. v.items ≡ spec.entries_of (lookups plan.now) pages.now name.now items.now) }
+    ensures { IfOk result (λ v. v.items ≡ spec.entries_of (lookups plan.now) (at_place pages.now) name.now items.now) }
 {
     let mut entries = Vec::with_capacity(alloc, items.len())?;
     for item in items {
@@ -71,7 +72,7 @@ fn page_of<'a>(
     item: ItemNo,
 ) -> Option<&'a PageRef>
     requires { item < length plan.now.items }
-    ensures { option_map (λ p. p.now) result ≡ spec.page_by pages.now ((lookups plan.now).pair item name.now) }
+    ensures { option_map (λ p. p.now) result ≡ spec.page_by (at_place pages.now) ((lookups plan.now).pair item name.now) }
 {
     let pair = plan.pair(item, name)?;
     match pages.get(pair.0 as usize) {

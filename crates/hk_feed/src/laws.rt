@@ -5,7 +5,7 @@ ghost use Rattle.hk_rules.specs.Plan.{Lookups};
 ghost use Rattle.hk_feed.specs.Accepted.{IsAccepted};
 ghost use Rattle.hk_feed.specs.FeedFaults.{feeds_fault};
 ghost use Rattle.hk_feed.specs.Xml.{xml, unescaped, kept};
-ghost use Rattle.hk_feed.specs.declared.feed_rule.FeedRule.{FeedRule};
+ghost use Rattle.hk_rules_file.specs.declared.tables.FeedRule.{FeedRule};
 
 /// Replacing the five names in what bytes are written as, in one pass from the left, gives the bytes as `from_utf8_lossy`
 /// reads them, without the characters that XML knows in no document.

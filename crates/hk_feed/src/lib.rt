@@ -6,7 +6,6 @@ mod checking;
 mod clashes;
 mod entries;
 mod feed_fault;
-mod feed_rule;
 mod laws;
 mod lines;
 mod members;
@@ -18,6 +17,5 @@ mod xml;
 
 pub use checking::check_feeds;
 pub use feed_fault::FeedFault;
-pub use feed_rule::{FeedKind, FeedRule};
 pub use laws::{accepted_feeds_are_whole, escaping_is_undone};
-pub use texts::feed_text;
+pub use texts::{feed_files, feed_text};

@@ -4,7 +4,7 @@ ghost use Rattle.hk_meta.specs.Date.{IsMoment};
 ghost use Rattle.hk_rules.specs.Plan.{lookups};
 ghost use Rattle.hk_feed.specs.Members as spec;
 
-use crate::feed_rule::FeedRule;
+use hk_rules_file::FeedRule;
 use hk_base::NoMemory;
 use hk_chain::ItemNo;
 use hk_meta::{Moment, date_of};

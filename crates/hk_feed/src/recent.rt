@@ -4,7 +4,7 @@ ghost use Rattle.std.specs.Option.{option_to_list};
 ghost use Rattle.hk_rules.specs.Plan.{lookups};
 ghost use Rattle.hk_feed.specs.Recent as spec;
 
-use crate::feed_rule::FeedRule;
+use hk_rules_file::FeedRule;
 use crate::members::{date_at, members};
 use hk_base::NoMemory;
 use hk_chain::ItemNo;

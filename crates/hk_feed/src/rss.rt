@@ -6,7 +6,7 @@ ghost use Rattle.hk_rules.specs.Plan.{lookups};
 ghost use Rattle.hk_feed.specs.FeedText as spec;
 
 use crate::entries::Entry;
-use crate::feed_rule::FeedRule;
+use hk_rules_file::FeedRule;
 use crate::lines::{append, date_text, joined, link_of, write_element, write_title};
 use crate::title::title_at;
 use hk_base::NoMemory;

@@ -1,12 +1,13 @@
 // The text of a feed.
 ghost use Rattle.std.specs.Prelude.{◌≡◌, ◌++◌, ◌<◌, IfOk, OnOk, All, length};
 ghost use Rattle.std.specs.String.{string_bytes};
+ghost use Rattle.hk_chain.specs.Kept.{at_place};
 ghost use Rattle.hk_rules.specs.Plan.{lookups};
 ghost use Rattle.hk_feed.specs.FeedText as spec;
 
 use crate::atom::write_atom;
 use crate::entries::{Entry, entries};
-use crate::feed_rule::{FeedKind, FeedRule};
+use hk_rules_file::{FeedKind, FeedRule};
 use crate::lines::append;
 use crate::rss::write_rss;
 use hk_base::{NoMemory, Text};
@@ -27,13 +28,43 @@ pub fn feed_text(
     results: &Results,
     feed: &FeedRule,
 ) -> Result<Text, NoMemory>
-    ensures { IfOk result (λ text. text ≡ spec.feed_text (lookups plan.now) results.now.pages feed.now) }
+    ensures { IfOk result (λ text. text ≡ spec.feed_text (lookups plan.now) (at_place results.now.pages) feed.now) }
 {
     let entries = entries(alloc, plan, &results.pages, feed)?;
     let mut out = String::new(alloc);
     append(&mut out, "<?xml version=\"1.0\" encoding=\"utf-8\"?>\n")?;
     write_kind(alloc, &mut out, plan, feed, &entries)?;
     Ok(Text::from_vec(out.into_bytes()))
+}
+
+/// The target and the text of each feed, in the order of the feeds, as `feed_text` gives them. `NoMemory` only for want of
+/// memory. Linear in the bytes of the feeds, after one test of each item and a sort of the members for each feed.
+pub fn feed_files(
+    alloc: Global,
+    plan: &Plan,
+    results: &Results,
+    feeds: &[FeedRule],
+) -> Result<Vec<(Text, Text)>, NoMemory>
+    ensures { IfOk result (λ files. files.items ≡ spec.feed_files (lookups plan.now) (at_place results.now.pages) feeds.now) }
+{
+    let mut files = Vec::with_capacity(alloc, feeds.len())?;
+    for feed in feeds {
+        files.push(feed_file(alloc, plan, results, feed)?)?;
+    }
+    Ok(files)
+}
+
+fn feed_file(
+    alloc: Global,
+    plan: &Plan,
+    results: &Results,
+    feed: &FeedRule,
+) -> Result<(Text, Text), NoMemory>
+    ensures { IfOk result (λ file. file ≡ spec.feed_file (lookups plan.now) (at_place results.now.pages) feed.now) }
+{
+    let target = Text::from_slice(alloc, feed.target.as_slice())?;
+    let text = feed_text(alloc, plan, results, feed)?;
+    Ok((target, text))
 }
 
 fn write_kind(
