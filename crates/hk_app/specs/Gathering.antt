@@ -3,7 +3,7 @@ use Rattle.std.specs.Prelude.{◌≡◌, IfSome, Ok}
 use Rattle.hk_base.specs.Bytes.{Bytes}
 use Rattle.hk_build.specs.Planned.{IsPlanned}
 use Rattle.hk_outside.specs.Causes.{Rose}
-use Rattle.hk_rules_file.specs.Linked.{IsLinked}
+use Rattle.hk_rules_file.specs.Linked.{HasLinkedTables, IsLinked}
 use Rattle.hk_rules_file.specs.Rules.{RulesView}
 use Rattle.hk_rules_file.specs.RulesForm.{rules_of}
 use Rattle.hk_rules.specs.PlanView.{PlanView}
@@ -21,6 +21,7 @@ pub record AreRead (rules : RulesView) : Type 0 where
   pub text : Bytes
   pub read : rules_of text ≡ Ok rules
   pub linked : IsLinked rules
+  pub tables : HasLinkedTables rules
 
 -- a status and a text that refuse what was read
 abbrev pub RefusesReading : Reading → Status → Bytes → Type 0

@@ -6,6 +6,8 @@ use Rattle.hk_build.specs.Build.{compiled, endings, image, is_empty, pages, repo
 use Rattle.hk_build.specs.Linked.{all_lead, link_lines}
 use Rattle.hk_build.specs.Pages.{pages_at}
 use Rattle.hk_build.specs.Planned.{IsPlanned}
+use Rattle.hk_build.specs.SitePlan.{SiteFault}
+use Rattle.hk_build.specs.declared.site_fault.SiteFault.TheVariants.{Plan, Tags, Feeds}
 use Rattle.hk_chain.specs.declared.page.Page.{Page}
 use Rattle.hk_fix.specs.declared.event.Event.{Event}
 use Rattle.hk_fix.specs.Fix.{IsComplete}
@@ -17,7 +19,7 @@ use Rattle.hk_reuse.specs.Site.{no_seeds}
 use Rattle.hk_rules.specs.PlanView.{PlanView}
 use Rattle.hk_rules.specs.Plan.{lookups}
 use Rattle.hk_texts.specs.DepsText.{deps_text}
-use Rattle.hk_texts.specs.Printed.{absent_line, rules_line, plan_line, read_fault_line, write_fault_line, summary, items_line, removed_line}
+use Rattle.hk_texts.specs.Printed.{absent_line, rules_line, plan_line, tag_line, feed_line, read_fault_line, write_fault_line, summary, items_line, removed_line}
 use Rattle.hk_texts.specs.Printed.{store_unread_line, store_unwritten_line, store_unremoved_line}
 use Rattle.hk_texts.specs.ReportText.{report_text}
 use Rattle.hk_texts.specs.TraceText.{trace_text}
@@ -51,7 +53,7 @@ Untouched old new = new ≡ old
 
 -- ---- what a command goes by
 
--- the plan of a folder's files, made of rules that were read
+-- the plan of a folder's files, made of linked rules
 pub record IsPlanOf (files : Files) (plan : PlanView) : Type 0 where
   pub read : reading files ≡ planned plan
   pub of_rules : IsPlanned plan
@@ -238,11 +240,17 @@ IsBadRules said (refused fault) = said ≡ rules_line fault
 IsBadRules said (unplanned fault) = ⊥
 IsBadRules said (planned plan) = ⊥
 
--- the rules make no plan, and the text says why
+-- why a site has no plan
+abbrev pub fault_line : SiteFault → Bytes
+fault_line (Plan fault) = plan_line fault
+fault_line (Tags fault) = tag_line fault
+fault_line (Feeds fault) = feed_line fault
+
+-- the site has no plan, and the text says why
 abbrev pub IsBadSite : Bytes → Reading → Type 0
 IsBadSite said absent = ⊥
 IsBadSite said (refused fault) = ⊥
-IsBadSite said (unplanned fault) = said ≡ plan_line fault
+IsBadSite said (unplanned fault) = said ≡ fault_line fault
 IsBadSite said (planned plan) = ⊥
 
 -- the command reads the source, which was read, and this holds of what it comes to

@@ -3,12 +3,11 @@ use Rattle.std.specs.Prelude.{Bool, ◌||◌, not, List, [], ◌∷◌, Option, 
 use Rattle.std.specs.List.{filter}
 use Rattle.std.specs.FinMap.{entries}
 use Rattle.hk_base.specs.Bytes.{Bytes, Files}
+use Rattle.hk_build.specs.SitePlan.{SiteFault, site_plan}
 use Rattle.hk_rules.specs.RulesFault.{RulesFault}
-use Rattle.hk_rules.specs.declared.plan_fault.PlanFault.{PlanFault}
 use Rattle.hk_rules.specs.Rules.{RulesView}
 use Rattle.hk_rules.specs.RulesForm.{rules_of}
 use Rattle.hk_rules.specs.PlanView.{PlanView}
-use Rattle.hk_rules.specs.Planning.{plan_of}
 use Rattle.hk_rules.specs.Resource.{is_ignored}
 
 abbrev pub rules_path : Bytes
@@ -30,20 +29,20 @@ abbrev pub found_at : Bytes → List (Bytes × Bytes) → Option Bytes
 found_at path [] = None
 found_at path (e ∷ es) = if bytes_eq e.0 path then Some e.1 else found_at path es
 
--- what a folder comes to: no rules file, refused rules, rules that make no plan of it, or its plan
+-- what a folder comes to: no rules file, refused rules, no plan of the site, or its plan
 pub data Reading : Type 0 where
   absent : Reading
   refused : RulesFault → Reading
-  unplanned : PlanFault → Reading
+  unplanned : SiteFault → Reading
   planned : PlanView → Reading
 
-abbrev pub plan_reading : Result PlanView PlanFault → Reading
+abbrev pub plan_reading : Result PlanView SiteFault → Reading
 plan_reading (Err fault) = unplanned fault
 plan_reading (Ok plan) = planned plan
 
 abbrev pub rules_reading : List (Bytes × Bytes) → Result RulesView RulesFault → Reading
 rules_reading files (Err fault) = refused fault
-rules_reading files (Ok rules) = plan_reading (plan_of rules files)
+rules_reading files (Ok rules) = plan_reading (site_plan rules files)
 
 abbrev pub text_reading : List (Bytes × Bytes) → Option Bytes → Reading
 text_reading files None = absent

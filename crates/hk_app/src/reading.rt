@@ -1,7 +1,8 @@
 // What the source comes to under its rules: a plan, or the refusal of one.
 ghost use Rattle.std.specs.Prelude.{◌≡◌, ◌≤◌, IfOk, option_map};
-ghost use Rattle.hk_rules.specs.Planning.{plan_of};
+ghost use Rattle.hk_build.specs.SitePlan.{site_plan};
 ghost use Rattle.hk_app.specs.Gathering.{AreRead, ReadsAs, Gathers};
+ghost use Rattle.hk_app.specs.Promise.{fault_line};
 ghost use Rattle.hk_app.specs.Site as spec;
 ghost use Rattle.hk_app.specs.Site.{files_reading, plan_reading, rules_path, found_at};
 ghost use Rattle.hk_app.specs.World.{folder};
@@ -11,9 +12,10 @@ use crate::Status;
 use crate::ended::Ended;
 use crate::folder::read_folder;
 use hk_base::{NoMemory, Refusal, Text};
+use hk_build::{SiteFault, plan_site};
 use hk_outside::{Tree, TreeFault};
-use hk_rules::{Plan, PlanFault, Rules, RulesFault, is_ignored, make_plan, read_rules};
-use hk_texts::{plan_line, rules_line};
+use hk_rules::{Plan, Rules, RulesFault, is_ignored, read_rules};
+use hk_texts::{feed_line, plan_line, rules_line, tag_line};
 use std::alloc::Global;
 
 /// A plan, or what the run comes to without one.
@@ -60,9 +62,9 @@ fn plan_unignored(
     files: Vec<(Text, Text)>,
 ) -> Result<Gathered, NoMemory>
     requires { AreRead rules }
-    ensures reads { IfOk result (ReadsAs (plan_reading (plan_of rules (spec.unignored files.items)))) }
+    ensures reads { IfOk result (ReadsAs (plan_reading (site_plan rules (spec.unignored files.items)))) }
 {
-    match make_plan(alloc, rules, unignored(files)) {
+    match plan_site(alloc, rules, unignored(files)) {
         Ok(plan) => Ok(Gathered::Planned(plan)),
         Err(Refusal::Fault(fault)) => Ok(Gathered::Refused(bad_site(alloc, &fault)?)),
         Err(Refusal::NoMemory) => Err(NoMemory),
@@ -100,10 +102,14 @@ fn bad_rules(alloc: Global, fault: &RulesFault) -> Result<Ended, NoMemory>
     })
 }
 
-fn bad_site(alloc: Global, fault: &PlanFault) -> Result<Ended, NoMemory>
-    ensures { IfOk result (λ e. (e.status ≡ Status.BadSite) × (e.text ≡ printed.plan_line fault.now)) }
+fn bad_site(alloc: Global, fault: &SiteFault) -> Result<Ended, NoMemory>
+    ensures { IfOk result (λ e. (e.status ≡ Status.BadSite) × (e.text ≡ fault_line fault.now)) }
 {
-    let text = plan_line(alloc, fault)?;
+    let text = match fault {
+        SiteFault::Plan(fault) => plan_line(alloc, fault)?,
+        SiteFault::Tags(fault) => tag_line(alloc, fault)?,
+        SiteFault::Feeds(fault) => feed_line(alloc, fault)?,
+    };
     Ok(Ended {
         status: Status::BadSite,
         text,

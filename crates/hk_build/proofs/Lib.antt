@@ -10,4 +10,5 @@ pub mod Renderings
 pub mod Replayed
 mod SameStores
 pub mod Showing
+mod SitePlans
 pub mod Storing

@@ -34,7 +34,7 @@ use Rattle.hk_rules.specs.Plan.{lookups}
 use Rattle.hk_rules_file.specs.declared.tables.FeedRule.{FeedRule}
 use Rattle.hk_writer.specs.declared.page_out.PageOut.{PageOut}
 use Rattle.hk_writer.specs.Pages.{pages_of}
-use Rattle.hk_build.specs.Build.{ending, endings, feed_files, is_empty, pages, report, site_of, with_files}
+use Rattle.hk_build.specs.Build.{ending, endings, feeds, is_empty, pages, report, site_of, with_files}
 use Rattle.hk_build.specs.Built.{AreResults}
 use Rattle.hk_build.specs.Pages.{bodies, feed_page, feed_pages, in_order, item_pages, over, page_at, pages_at, placed, placed_out, with_page}
 use Rattle.hk_build.proofs.Numbers.{at-upto, count-upto, flat-more, flat-upto, shape-items}
@@ -153,7 +153,7 @@ module _ (plan : PlanView) (over_entries : Entries) (empty : is_empty (report pl
       (λ i lt. file-done ((lookups plan).target_of i) (ending plan over_entries i) (k (final_of (plan_shape plan) i)) (all-finished i lt)))
       ∙ ap (λ l. from_entries l) (bodies-flat (λ i. option_to_list (page_at plan k i)) (upto (length plan.items)))
 
-  feeds-are : bodies (feed_pages plan (pages plan over_entries)) ≡ feed_files plan over_entries
+  feeds-are : bodies (feed_pages plan (pages plan over_entries)) ≡ feeds plan over_entries
   feeds-are = sym (map-map (λ (e : Bytes × Page). (e.0, e.1.body)) (feed_page plan (pages plan over_entries)) plan.feeds)
 
   -- the pages of results in order

@@ -3,7 +3,7 @@ use Rattle.std.specs.Prelude.{ℕ, ◌==◌, Bool, ◌&&◌, List, [], ◌∷◌
 use Rattle.std.specs.FinMap.{insert}
 use Rattle.hk_base.specs.Bytes.{Bytes, Files}
 use Rattle.hk_chain.specs.declared.page.Page.{Page}
-use Rattle.hk_feed.specs.FeedText.{feed_text}
+use Rattle.hk_feed.specs.FeedText.{feed_files}
 use Rattle.hk_fix.specs.declared.event.Event.{Event}
 use Rattle.hk_fix.specs.Fix.{Ending, Seeds}
 use Rattle.hk_fix.specs.Pages.{Pages}
@@ -16,7 +16,6 @@ use Rattle.hk_reuse.specs.Histories.{others}
 use Rattle.hk_reuse.specs.Kept as kept
 use Rattle.hk_rules.specs.PlanView.{PlanView}
 use Rattle.hk_rules.specs.Plan.{lookups}
-use Rattle.hk_rules_file.specs.declared.tables.FeedRule.{FeedRule}
 use Rattle.hk_sites.specs.PlanSite.{items_of}
 use Rattle.hk_sites.specs.Rebuilding.{ends_by, keeps, list_by, pages_by, run_over, seeds_of_kept}
 use Rattle.hk_store.specs.StoreText.{sealed, store_text}
@@ -30,10 +29,6 @@ is_empty r = (length r.failed == 0) && ((length r.cycles == 0) && (length r.bloc
 abbrev pub with_files : List (Bytes × Bytes) → Files → Files
 with_files [] m = m
 with_files (file ∷ files) m = insert (with_files files m) file.0 file.1
-
--- a feed's target and its text, by the pages that are known
-abbrev pub feed_file : PlanView → Pages → FeedRule → Bytes × Bytes
-feed_file plan pages feed = (feed.target, feed_text (lookups plan) pages feed)
 
 module _ (plan : PlanView) (entries : Entries) where
   -- what an item's compiler does under known pages: it replays its entry, where that fits, and else its chain
@@ -55,13 +50,13 @@ module _ (plan : PlanView) (entries : Entries) where
   abbrev pub report : ReportView
   report = report_of (plan_shape plan) endings
 
-  -- the feeds at their targets
-  abbrev pub feed_files : List (Bytes × Bytes)
-  feed_files = map (feed_file plan pages) plan.feeds
+  -- the texts of the feeds at their targets
+  abbrev pub feeds : List (Bytes × Bytes)
+  feeds = feed_files (lookups plan) pages plan.feeds
 
   -- the site: the files of the finished items that have a target, and the feeds
   abbrev pub site_of : Files
-  site_of = with_files feed_files (files.site_of (plan_shape plan) (lookups plan).target_of ending pages)
+  site_of = with_files feeds (files.site_of (plan_shape plan) (lookups plan).target_of ending pages)
 
   -- the bytes of the store
   unfoldable pub image : Bytes

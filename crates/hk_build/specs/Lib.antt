@@ -6,3 +6,4 @@ pub mod Pages
 pub mod Planned
 pub mod Reported
 pub mod Shown
+pub mod SitePlan

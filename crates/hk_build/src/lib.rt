@@ -14,6 +14,8 @@ mod replays;
 mod report;
 mod same;
 mod shown;
+mod site_fault;
+mod site_plan;
 
 pub use build::build_one;
 pub use check::check_one;
@@ -26,3 +28,5 @@ pub use pages::site_pages;
 pub use pool::build_in_pool;
 pub use report::report_lines;
 pub use shown::{shown_history, shown_trace};
+pub use site_fault::SiteFault;
+pub use site_plan::plan_site;

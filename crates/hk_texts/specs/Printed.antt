@@ -3,11 +3,15 @@ use Rattle.std.specs.Prelude.{ℕ, ◌++◌, codes}
 use Rattle.std.specs.Fmt.{decimal}
 use Rattle.hk_base.specs.Bytes.{Bytes}
 use Rattle.hk_base.specs.Identifier.{Ident, print_ident}
+use Rattle.hk_feed.specs.declared.feed_fault.FeedFault.{FeedFault}
+use Rattle.hk_feed.specs.declared.feed_fault.FeedFault.TheVariants as feeds
 use Rattle.hk_rules.specs.RulesFault.{RulesFault}
 use Rattle.hk_rules.specs.RulesFault.TheVariants.{TooLong, NotToml, BadRule, TooManyRules, BadContext, DoubleSnapshot, UnknownContext, BadTags, BadPaginate, BadFeed}
 use Rattle.hk_rules.specs.declared.plan_fault.PlanFault.{PlanFault}
 use Rattle.hk_rules.specs.declared.plan_fault.PlanFault.TheVariants.{BadName, TooManyItems, BadHeader, BadTarget, SameTarget, NestedTarget}
 use Rattle.hk_store.specs.declared.damage.StoreDamage.{StoreDamage}
+use Rattle.hk_tags.specs.declared.tag_fault.TagFault.{TagFault}
+use Rattle.hk_tags.specs.declared.tag_fault.TagFault.TheVariants as tags
 use Rattle.hk_store.specs.declared.damage.StoreDamage.TheVariants.{BadTrailer, BadShape, OldVersion}
 
 abbrev pub absent_line : Bytes
@@ -58,6 +62,23 @@ plan_line (BadHeader path line) = header_line path line
 plan_line (BadTarget id) = around (codes "site: bad target of ") (print_ident id) end_of_line
 plan_line (SameTarget target first second) = same_line target first second
 plan_line (NestedTarget outer inner first second) = nested_line outer inner first second
+
+-- why the tables of rules give no pages
+abbrev pub tag_line : TagFault → Bytes
+tag_line (tags.BadPath path) = around (codes "site: bad page ") path end_of_line
+tag_line (tags.Taken id) = around (codes "site: page ") (print_ident id) (codes " is taken\n")
+tag_line (tags.NoDate id) = around (codes "site: no date of ") (print_ident id) end_of_line
+tag_line tags.TooManyItems = codes "site: more than 65535 items\n"
+
+abbrev pub snapshot_line : Bytes → Ident → Bytes
+snapshot_line name id = ((codes "site: no snapshot " ++ name) ++ codes " of ") ++ (print_ident id ++ end_of_line)
+
+-- why feeds can't be made
+abbrev pub feed_line : FeedFault → Bytes
+feed_line (feeds.BadTarget target) = around (codes "site: bad target ") target end_of_line
+feed_line (feeds.Taken target) = around (codes "site: feed ") target (codes " is taken\n")
+feed_line (feeds.NoSnapshot id name) = snapshot_line name id
+feed_line (feeds.NoDate id) = around (codes "site: no date of ") (print_ident id) end_of_line
 
 abbrev pub read_fault_line : Bytes
 read_fault_line = codes "source cannot be read\n"

@@ -13,6 +13,6 @@ mod trace;
 pub use damage::damage_line;
 pub use deps::deps_text;
 pub use done::{items_line, removed_line, summary};
-pub use refusals::{plan_line, rules_line};
+pub use refusals::{feed_line, plan_line, rules_line, tag_line};
 pub use report::report_text;
 pub use trace::trace_text;

@@ -5,7 +5,9 @@ ghost use Rattle.hk_base.specs.Identifier.{print_ident};
 ghost use Rattle.hk_texts.specs.Printed as spec;
 
 use hk_base::{Identifier, NoMemory, Text};
+use hk_feed::FeedFault;
 use hk_rules::{PlanFault, RulesFault};
+use hk_tags::TagFault;
 use std::alloc::Global;
 
 /// The line of a refused `site.toml`. Linear in what it names.
@@ -96,6 +98,49 @@ pub fn plan_line(alloc: Global, fault: &PlanFault) -> Result<Text, NoMemory>
             second,
         } => nested_line(alloc, outer.as_slice(), inner.as_slice(), first, second),
     }
+}
+
+/// The line of tables that give no pages. Linear in what it names.
+pub fn tag_line(alloc: Global, fault: &TagFault) -> Result<Text, NoMemory>
+    ensures { IfOk result (λ text. text ≡ spec.tag_line fault.now) }
+{
+    match fault {
+        TagFault::BadPath { path } => around(alloc, b"site: bad page ", path.as_slice(), b"\n"),
+        TagFault::Taken { id } => {
+            let printed = id.print(alloc)?;
+            around(alloc, b"site: page ", printed.as_slice(), b" is taken\n")
+        }
+        TagFault::NoDate { id } => id_line(alloc, b"site: no date of ", id),
+        TagFault::TooManyItems => Text::from_slice(alloc, b"site: more than 65535 items\n"),
+    }
+}
+
+/// The line of feeds that can't be made. Linear in what it names.
+pub fn feed_line(alloc: Global, fault: &FeedFault) -> Result<Text, NoMemory>
+    ensures { IfOk result (λ text. text ≡ spec.feed_line fault.now) }
+{
+    match fault {
+        FeedFault::BadTarget { target } => {
+            around(alloc, b"site: bad target ", target.as_slice(), b"\n")
+        }
+        FeedFault::Taken { target } => {
+            around(alloc, b"site: feed ", target.as_slice(), b" is taken\n")
+        }
+        FeedFault::NoSnapshot { id, name } => snapshot_line(alloc, name.as_slice(), id),
+        FeedFault::NoDate { id } => id_line(alloc, b"site: no date of ", id),
+    }
+}
+
+fn snapshot_line(alloc: Global, name: &[u8], id: &Identifier) -> Result<Text, NoMemory>
+    ensures { IfOk result (λ text. text ≡ spec.snapshot_line name.now id.now) }
+{
+    let mut back = id.print(alloc)?.into_vec();
+    back.push(b'\n')?;
+    let mut line = Vec::from_slice(alloc, b"site: no snapshot ")?;
+    line.extend_from_slice(name)?;
+    line.extend_from_slice(b" of ")?;
+    line.extend_from_slice(&back)?;
+    Ok(Text::from_vec(line))
 }
 
 fn header_line(alloc: Global, path: &[u8], line: u64) -> Result<Text, NoMemory>

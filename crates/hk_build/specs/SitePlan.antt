@@ -1,0 +1,43 @@
+-- The plan of a site: that of its rules with a rule for each page of their tables.
+use Rattle.std.specs.Prelude.{List, Option, option_map, Result, Ok, Err}
+use Rattle.hk_base.specs.Bytes.{Bytes}
+use Rattle.hk_feed.specs.FeedFaults.{feeds_fault}
+use Rattle.hk_rules.specs.Outcomes.{after, unless}
+use Rattle.hk_rules.specs.Plan.{lookups}
+use Rattle.hk_rules.specs.PlanView.{PlanView}
+use Rattle.hk_rules.specs.Planning.{plan_of}
+use Rattle.hk_rules.specs.declared.plan_fault.PlanFault.{PlanFault}
+use Rattle.hk_rules_file.specs.Rules.{RulesView}
+use Rattle.hk_tags.specs.Expanding.{expand}
+use Rattle.hk_tags.specs.declared.tag_fault.TagFault.{TagFault}
+use Rattle.hk_build.specs.declared.site_fault.SiteFault.TheVariants.{Plan, Tags, Feeds}
+-- why a site has no plan
+pub use Rattle.hk_build.specs.declared.site_fault.SiteFault.{SiteFault}
+
+abbrev pub of_plan : Result PlanView PlanFault → Result PlanView SiteFault
+of_plan (Ok plan) = Ok plan
+of_plan (Err fault) = Err (Plan fault)
+
+abbrev pub of_tables : Result RulesView TagFault → Result RulesView SiteFault
+of_tables (Ok rules) = Ok rules
+of_tables (Err fault) = Err (Tags fault)
+
+-- the plan of rules as they stand
+abbrev pub rules_plan : RulesView → List (Bytes × Bytes) → Result PlanView SiteFault
+rules_plan rules files = of_plan (plan_of rules files)
+
+-- the rules with one for each page of their tables
+abbrev pub expanded : RulesView → PlanView → Result RulesView SiteFault
+expanded rules base = of_tables (expand rules base)
+
+-- the plan of rules with one for each page of their tables, whose members are those of the plan without these
+abbrev pub expanded_plan : RulesView → List (Bytes × Bytes) → Result PlanView SiteFault
+expanded_plan rules files = after (rules_plan rules files) (λ base. after (expanded rules base) (λ all. rules_plan all files))
+
+-- why the feeds of a plan can't be made
+abbrev pub feeds_refusal : PlanView → Option SiteFault
+feeds_refusal plan = option_map Feeds (feeds_fault (lookups plan) plan.feeds)
+
+-- that plan, where its feeds can be made; the first fault counts
+unfoldable pub site_plan : RulesView → List (Bytes × Bytes) → Result PlanView SiteFault
+site_plan rules files = after (expanded_plan rules files) (λ plan. unless (feeds_refusal plan) (Ok plan))

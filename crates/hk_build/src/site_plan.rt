@@ -1,0 +1,127 @@
+// The plan of a site: that of its rules with a rule for each page of their tables.
+ghost use Rattle.std.specs.Prelude.{◌≡◌, [], IfOk};
+ghost use Rattle.hk_base.specs.Answers.{Answers};
+ghost use Rattle.hk_rules.specs.Outcomes.{Passes};
+ghost use Rattle.hk_rules_file.specs.Linked.{HasLinkedTables, IsLinked};
+ghost use Rattle.hk_build.specs.Planned.{IsPlanned};
+ghost use Rattle.hk_build.specs.SitePlan as spec;
+
+use crate::site_fault::SiteFault;
+use hk_base::{NoMemory, Refusal, Text};
+use hk_feed::check_feeds;
+use hk_rules::{Plan, Rules, make_plan};
+use hk_tags::{expand, without_tables};
+use std::alloc::Global;
+
+/// The plan of a site, of rules that were read and of the files that they speak of, in path order.
+///
+/// Where the rules have tables for tags or numbered pages, the plan that they make without these gives the members of the
+/// tables; then it is the plan of the rules with a rule for each page. The files are copied once for it. Without such tables
+/// one plan is made, and nothing is copied.
+///
+/// The faults come in this order: that of the first plan, that of the tables' pages, that of the second plan, and that of the
+/// feeds. The cost is that of the plans, of the tables' pages, and of one test of each item for each feed.
+#[tactic(auto, unfolding(crate::specs::SitePlan::site_plan))]
+pub fn plan_site(
+    alloc: Global,
+    rules: Rules,
+    files: Vec<(Text, Text)>,
+) -> Result<Plan, Refusal<SiteFault>>
+    requires linked { IsLinked rules }
+    requires tables { HasLinkedTables rules }
+    ensures value { Answers (spec.site_plan rules files.items) result }
+    ensures planned { IfOk result (λ plan. IsPlanned plan) }
+{
+    let plan = if rules.tags.is_empty() && rules.pages.is_empty() {
+        unexpanded_plan(alloc, rules, files)?
+    } else {
+        expanded_plan(alloc, &rules, files)?
+    };
+    feeds_pass(alloc, &plan)?;
+    Ok(plan)
+}
+
+/// The plan of rules as they stand.
+fn plan_of_rules(
+    alloc: Global,
+    rules: Rules,
+    files: Vec<(Text, Text)>,
+) -> Result<Plan, Refusal<SiteFault>>
+    requires { IsLinked rules }
+    ensures value { Answers (spec.rules_plan rules files.items) result }
+    ensures planned { IfOk result (λ plan. IsPlanned plan) }
+{
+    match make_plan(alloc, rules, files) {
+        Ok(plan) => Ok(plan),
+        Err(Refusal::Fault(fault)) => Err(Refusal::Fault(SiteFault::Plan(fault))),
+        Err(Refusal::NoMemory) => Err(Refusal::NoMemory),
+    }
+}
+
+/// The plan of rules without tables.
+fn unexpanded_plan(
+    alloc: Global,
+    rules: Rules,
+    files: Vec<(Text, Text)>,
+) -> Result<Plan, Refusal<SiteFault>>
+    requires linked { IsLinked rules }
+    requires tags { rules.tags ≡ [] }
+    requires pages { rules.pages ≡ [] }
+    ensures value { Answers (spec.expanded_plan rules files.items) result }
+    ensures planned { IfOk result (λ plan. IsPlanned plan) }
+{
+    let plan = plan_of_rules(alloc, rules, files)?;
+    let _items = plan.count();
+    Ok(plan)
+}
+
+/// The plan of rules with one for each page of their tables.
+fn expanded_plan(
+    alloc: Global,
+    rules: &Rules,
+    files: Vec<(Text, Text)>,
+) -> Result<Plan, Refusal<SiteFault>>
+    requires linked { IsLinked rules.now }
+    requires tables { HasLinkedTables rules.now }
+    ensures value { Answers (spec.expanded_plan rules.now files.items) result }
+    ensures planned { IfOk result (λ plan. IsPlanned plan) }
+{
+    let base = plan_of_rules(alloc, without_tables(alloc, rules)?, copied(alloc, &files)?)?;
+    let expanded = expanded_rules(alloc, rules, &base)?;
+    plan_of_rules(alloc, expanded, files)
+}
+
+fn expanded_rules(alloc: Global, rules: &Rules, base: &Plan) -> Result<Rules, Refusal<SiteFault>>
+    requires linked { IsLinked rules.now }
+    requires tables { HasLinkedTables rules.now }
+    ensures value { Answers (spec.expanded rules.now base.now) result }
+    ensures linked { IfOk result (λ r. IsLinked r) }
+{
+    match expand(alloc, rules, base) {
+        Ok(rules) => Ok(rules),
+        Err(Refusal::Fault(fault)) => Err(Refusal::Fault(SiteFault::Tags(fault))),
+        Err(Refusal::NoMemory) => Err(Refusal::NoMemory),
+    }
+}
+
+/// Whether the feeds of a plan can be made.
+fn feeds_pass(alloc: Global, plan: &Plan) -> Result<(), Refusal<SiteFault>>
+    ensures { Passes (spec.feeds_refusal plan.now) result }
+{
+    match check_feeds(alloc, plan, plan.feeds()) {
+        Ok(()) => Ok(()),
+        Err(Refusal::Fault(fault)) => Err(Refusal::Fault(SiteFault::Feeds(fault))),
+        Err(Refusal::NoMemory) => Err(Refusal::NoMemory),
+    }
+}
+
+/// The same files again.
+fn copied(alloc: Global, files: &[(Text, Text)]) -> Result<Vec<(Text, Text)>, NoMemory>
+    ensures { IfOk result (λ v. v.items ≡ files.now) }
+{
+    let mut copies = Vec::with_capacity(alloc, files.len())?;
+    for (path, bytes) in files {
+        copies.push((path.copy(alloc)?, bytes.copy(alloc)?))?;
+    }
+    Ok(copies)
+}
