@@ -3,12 +3,13 @@ use Rattle.std.proofs.Common.{◌≡◌, ℕ, zero, suc, ◌<◌, List, [], ◌�
 use Rattle.std.specs.List.{flat_map}
 use Rattle.std.specs.FinMap.{from_entries}
 use Rattle.hk_base.specs.Bytes.{Bytes}
-use Rattle.hk_build.specs.Build.{ending, endings, image, is_empty, pages, report, run_of, site_of}
+use Rattle.hk_build.specs.Build.{ending, endings, image, is_empty, pages, report, run_of, site_of, with_files}
 use Rattle.hk_build.specs.Built.{AreApart, IsClean, left as left-by}
 use Rattle.hk_build.proofs.HonestBuilds.{honest-clean}
 use Rattle.hk_build.proofs.Numbers.{at-upto, shape-items}
 use Rattle.hk_build.proofs.Replayed.{planned-made}
 use Rattle.hk_chain.specs.Layout.{final_of}
+use Rattle.hk_feed.specs.FeedText.{feed_files}
 use Rattle.hk_fix.specs.Fix.{Ending, waiting}
 use Rattle.hk_fix.specs.Pages.{Pages}
 use Rattle.hk_fix.specs.Report.{ending_at, report_of, upto}
@@ -81,10 +82,14 @@ unfolding endings
 same-end plan e h i lt =
     sym (at-upto (ending plan e) (length plan.items) i (waiting []) lt) ∙ ap (λ (es : List Ending). ending_at es i) h.endings ∙ at-upto (ending plan no_entries) (length plan.items) i (waiting []) lt
 
-pub same-site : (plan : PlanView) (e : Entries) → IsClean plan e → site_of plan e ≡ site_of plan no_entries
-same-site plan e h =
+same-items : (plan : PlanView) (e : Entries) → IsClean plan e
+    → files.site_of (plan_shape plan) (lookups plan).target_of (ending plan e) (pages plan e) ≡ files.site_of (plan_shape plan) (lookups plan).target_of (ending plan no_entries) (pages plan no_entries)
+same-items plan e h =
     let lay = plan_shape plan in
     let target = (lookups plan).target_of in
     ap (λ (k : Pages). files.site_of lay target (ending plan e) k) h.pages
     ∙ ap from_entries (flat-upto (λ i. files.file_of (target i) (ending plan e i) (pages plan no_entries (final_of lay i))) (λ i. files.file_of (target i) (ending plan no_entries i) (pages plan no_entries (final_of lay i))) lay.items
     (λ i lt. ap (λ (o : Ending). files.file_of (target i) o (pages plan no_entries (final_of lay i))) (same-end plan e h i (subst (λ n. i < n) (shape-items plan) lt))))
+
+pub same-site : (plan : PlanView) (e : Entries) → IsClean plan e → site_of plan e ≡ site_of plan no_entries
+same-site plan e h = (λ i. with_files (feed_files (lookups plan) (h.pages i) plan.feeds) (same-items plan e h i))
