@@ -16,6 +16,7 @@ pub struct StdSink<W: io::Write> {
 }
 
 impl<W: io::Write> StdSink<W> {
+    /// A sink at which no fault was counted. Constant.
     pub fn new(writer: W) -> StdSink<W>
         ensures { result.faults ≡ 0 }
     {

@@ -1,6 +1,6 @@
 // Paths of the system.
 ghost use Rattle.std.specs.Prelude.{◌≡◌, IfOk, IsErrOf, IsUtf8, string_bytes};
-ghost use Rattle.hk_cli.specs.Paths.{path_below};
+ghost use Rattle.hk_os.specs.Paths.{path_below};
 ghost use Rattle.hk_outside.specs.declared.tree.TreeFault.TheVariants.{Failed};
 
 use hk_base::NoMemory;

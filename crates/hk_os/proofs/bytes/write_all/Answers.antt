@@ -1,7 +1,7 @@
 use Rattle.std.proofs.Common.{sym, subst}
-use Rattle.hk_cli.proofs.Fronts.{Front, Front-slice, Front-kept}
-use Rattle.hk_cli.proofs.bytes.write_all.Goals as goal
-use Rattle.hk_cli.proofs.bytes.write_all.Goals.{in-Ok, in-Err}
+use Rattle.hk_os.proofs.Fronts.{Front, Front-slice, Front-kept}
+use Rattle.hk_os.proofs.bytes.write_all.Goals as goal
+use Rattle.hk_os.proofs.bytes.write_all.Goals.{in-Ok, in-Err}
 
 pub loop-preserved : goal.loop-preserved
 loop-preserved g c =

@@ -22,7 +22,7 @@ pub struct OsTree<'a, R: Files + AllocGlobal + Clone + Drop> {
 }
 
 impl<'a, R: Files + AllocGlobal + Clone + Drop> OsTree<'a, R> {
-    /// The folder at a path of the system, which need not be there.
+    /// The folder at a path of the system, which need not be there. Constant.
     pub fn new(rt: &'a R, root: String) -> OsTree<'a, R>
         ensures { result.faults ≡ 0 }
     {
