@@ -1,5 +1,5 @@
 // Which call a row is of.
-use crate::{folders, headers, identifiers, pages, patterns, templates};
+use crate::{folders, identifiers, pages, patterns, templates};
 use std::alloc::Global;
 use std::test::Fail;
 
@@ -8,19 +8,11 @@ pub fn answer(alloc: Global, call: &str, args: &[Vec<u8>]) -> Result<String, Fai
     match (call, args) {
         ("identifier", [path]) => identifiers::identifier(alloc, path, None),
         ("identifier", [path, version]) => identifiers::identifier(alloc, path, Some(version)),
-        ("order", [first, second]) => identifiers::order(alloc, first, second),
-        ("path", [path]) => identifiers::path(alloc, path),
         ("glob", [glob, path]) => patterns::glob(alloc, glob, path),
         ("pattern", [path]) => patterns::pattern(alloc, path, None),
         ("pattern", [path, version]) => patterns::pattern(alloc, path, Some(version)),
-        ("header", [file]) => headers::header(alloc, file),
-        ("companion", [text]) => headers::companion(alloc, text),
-        ("both", [file, text]) => headers::both(alloc, file, text),
-        ("date", [text, path, pattern]) => headers::date(alloc, text, path, pattern),
-        ("relative", [target, body]) => pages::relative(alloc, target, body),
         ("links", [body]) => pages::linked(alloc, body),
         ("url", [target]) => pages::url(alloc, target),
-        ("teaser", [body]) => pages::front(alloc, body),
         ("template", [text]) => templates::template(alloc, text),
         ("folder", [fuse]) => folders::folder(alloc, fuse),
         ("torn", [count]) => folders::torn(alloc, count),

@@ -1,6 +1,6 @@
-// Identifiers: their limits, their order and their printing.
-use crate::row::{shown, yes_or_no};
-use hk_base::{Identifier, Shared, is_path};
+// Identifiers: their refusals and their printing.
+use crate::row::shown;
+use hk_base::{Identifier, Shared};
 use std::alloc::Global;
 use std::test::Fail;
 
@@ -16,15 +16,4 @@ fn printed(alloc: Global, id: Identifier) -> Result<String, Fail> {
     let id = Shared::new(alloc, id)?;
     let other = id.try_clone()?.get().copy(alloc)?;
     Ok(shown(alloc, other.print(alloc)?.as_slice())?)
-}
-
-/// Whether a path without a version is before a path with one.
-pub fn order(alloc: Global, first: &[u8], second: &[u8]) -> Result<String, Fail> {
-    let first = Identifier::read(alloc, first, None)?;
-    let second = Identifier::read(alloc, second, Some(b"raw"))?;
-    yes_or_no(alloc, first < second)
-}
-
-pub fn path(alloc: Global, path: &[u8]) -> Result<String, Fail> {
-    yes_or_no(alloc, is_path(path))
 }

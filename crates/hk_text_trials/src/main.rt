@@ -3,7 +3,6 @@
 
 mod answers;
 mod folders;
-mod headers;
 mod identifiers;
 mod pages;
 mod patterns;
