@@ -89,10 +89,14 @@ is_shared_key k =
     || ((bytes_eq k (codes "context") || bytes_eq k (codes "item")) || bytes_eq k (codes "order"))
 
 abbrev pub is_said_key : Bytes → Bool
-is_said_key k = (bytes_eq k (codes "title") || bytes_eq k (codes "description")) || ((bytes_eq k (codes "author") || bytes_eq k (codes "root")) || bytes_eq k (codes "email"))
+is_said_key k =
+    (bytes_eq k (codes "title") || bytes_eq k (codes "description"))
+    || ((bytes_eq k (codes "author") || bytes_eq k (codes "root")) || bytes_eq k (codes "email"))
 
 abbrev pub is_feed_key : Bytes → Bool
-is_feed_key k = ((bytes_eq k (codes "kind") || bytes_eq k (codes "target")) || (bytes_eq k (codes "of") || bytes_eq k (codes "snapshot"))) || (bytes_eq k (codes "limit") || is_said_key k)
+is_feed_key k =
+    ((bytes_eq k (codes "kind") || bytes_eq k (codes "target")) || (bytes_eq k (codes "of") || bytes_eq k (codes "snapshot")))
+    || (bytes_eq k (codes "limit") || is_said_key k)
 
 -- the keys that a table may have
 unfoldable pub is_table_key : TableKind → Bytes → Bool
