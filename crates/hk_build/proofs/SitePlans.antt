@@ -8,7 +8,8 @@ use Rattle.hk_rules.specs.PlanView.{PlanView}
 use Rattle.hk_rules.specs.Planning.{plan_of}
 use Rattle.hk_rules_file.specs.Rules.{RulesView}
 use Rattle.hk_rules_file.specs.TableForm.{and_then}
-use Rattle.hk_tags.specs.Expanding.{counted, expand, start, unless_many, with_pieces, with_tags}
+use Rattle.hk_tags.specs.Expanding.{counted, expand, start, unless_many, with_page_table, with_tag_table}
+use Rattle.hk_tags.specs.Turns.{in_turn}
 use Rattle.hk_tags.specs.Untabled.{without_tables}
 use Rattle.hk_build.specs.SitePlan.{expanded_plan, of_plan, of_tables, rules_plan}
 
@@ -23,8 +24,8 @@ expand-nothing : (rules : RulesView) (base : PlanView) → rules.tags ≡ [] →
 unfolding expand
 expand-nothing rules base tags pages few =
     let b = lookups base in
-    ap (λ ts. and_then (with_tags b ts (start rules)) (λ grown. and_then (with_pieces b rules.pages grown) (counted b rules.feeds))) tags
-    ∙ ap (λ ps. and_then (with_pieces b ps (start rules)) (counted b rules.feeds)) pages
+    ap (λ ts. and_then (in_turn (with_tag_table b) ts (start rules)) (λ grown. and_then (in_turn (with_page_table b) rules.pages grown) (counted b rules.feeds))) tags
+    ∙ ap (λ ps. and_then (in_turn (with_page_table b) ps (start rules)) (counted b rules.feeds)) pages
     ∙ ap (λ many. unless_many many (without_tables rules)) (le-ltb 65535 (b.count + 0) (omega (arith, few)))
 
 pub unexpanded : (rules : RulesView) (files : List (Bytes × Bytes)) (plan : PlanView) → rules.tags ≡ [] → rules.pages ≡ [] → (lookups plan).count ≤ 65535
