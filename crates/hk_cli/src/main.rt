@@ -1,19 +1,9 @@
 //! The program: the words, the folders and the standard output of the system, and the status as exit code.
 #![tactic(auto)]
 
-mod bytes;
-mod count;
-mod os_tree;
-mod paths;
-mod std_sink;
-#[cfg(test)]
-mod tests;
-mod walk;
-
-use crate::os_tree::OsTree;
-use crate::std_sink::StdSink;
 use hk_app::{Status, site_main};
 use hk_base::NoMemory;
+use hk_os::{OsTree, StdSink};
 use hk_outside::OpenGate;
 use std::alloc::Global;
 use std::io::ErrorKind;
