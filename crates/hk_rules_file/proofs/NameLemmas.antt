@@ -15,7 +15,6 @@ use Rattle.hk_chain.specs.Context.{ContextView}
 use Rattle.hk_pattern.specs.declared.pattern.Pattern.{Pattern}
 use Rattle.hk_rules_file.specs.ContextForm.{is_early, in_part, with_names, names_of, contexts_in}
 use Rattle.hk_rules_file.specs.ContextNames.{keys_in, AreAscending, IsAmong, AreNames, NamesTellContexts}
-use Rattle.hk_rules_file.specs.Linked.{context_names}
 use Rattle.hk_rules_file.specs.Numbering.{place_of, with_name, with_name_by}
 use Rattle.hk_rules_file.specs.declared.fault.RulesFault.{RulesFault}
 use Rattle.hk_steps.specs.StepForm.{default_name}
