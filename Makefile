@@ -3,14 +3,15 @@
 # uninstall   takes these away from PREFIX
 # demo     builds the example site in out/demo and prints its pages
 # test     the gate: every proof, test and must-fail edit, and the end-to-end cases
-# allocations   lets each allocation of a build fail in turn, in the proved program; it wants a C compiler, and is not part
-#          of the gate
+# allocations   lets each allocation of a build fail in turn, by one worker and by four, in the proved program; it wants a C
+#          compiler, and is not part of the gate
+# limits   builds sites as large as the limits let them be, each in seconds of its own; it is not part of the gate
 # clean    takes away what the others made
 PREFIX = /usr/local
 program = crates/hk_cli/out/hk_cli
 sources = $(shell find crates -type f -not -path '*/out/*' -not -path '*/must-fail/*')
 
-.PHONY: build install uninstall demo test allocations clean
+.PHONY: build install uninstall demo test allocations limits clean
 
 build: hakyll_cli
 
@@ -38,6 +39,9 @@ test:
 
 allocations: $(program)
 	tests/allocations $(program)
+
+limits: $(program)
+	tests/limits $(program)
 
 clean:
 	rm -rf hakyll_cli out crates/*/out

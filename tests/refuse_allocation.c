@@ -1,11 +1,12 @@
 /* Lets one allocation of a program fail. Preloaded into it, this refuses the allocation whose number, counted from 1, is
    the value of REFUSED, and then writes a line to file descriptor 3. It counts the calls that the program's own code
-   makes and passes on those of the C library. */
+   makes, whichever thread makes them, and passes on those of the C library. */
 #define _GNU_SOURCE
 #include <dlfcn.h>
 #include <elf.h>
 #include <errno.h>
 #include <link.h>
+#include <stdatomic.h>
 #include <stddef.h>
 #include <stdint.h>
 #include <stdlib.h>
@@ -15,7 +16,8 @@
 static void *(*next_malloc)(size_t);
 static void *(*next_realloc)(void *, size_t);
 static uintptr_t code_start, code_end;
-static unsigned long refused, calls;
+static unsigned long refused;
+static atomic_ulong calls;
 
 /* Where the program's own code lies. */
 static void find_code(void) {
@@ -32,6 +34,7 @@ static void find_code(void) {
         }
 }
 
+/* The C library allocates before the program starts a thread, so one thread alone comes further than the first line. */
 static void begin(void) {
     if (next_realloc)
         return;
@@ -45,7 +48,7 @@ static void begin(void) {
 static int is_refused(void *caller) {
     uintptr_t from = (uintptr_t)caller;
     begin();
-    if (from < code_start || from >= code_end || ++calls != refused)
+    if (from < code_start || from >= code_end || atomic_fetch_add(&calls, 1) + 1 != refused)
         return 0;
     if (write(3, "refused\n", 8) != 8)
         abort();

@@ -90,7 +90,7 @@ fn feed_page(
     let body = feed_text(alloc, plan, results, feed)?;
     let kind = Kind::Text;
     Ok(PageOut {
-        target: feed.target.copy(alloc)?,
+        target: Text::from_slice(alloc, feed.target.as_slice())?,
         page: Shared::new(alloc, Page { kind, body })?,
     })
 }

@@ -121,7 +121,8 @@ fn copied(alloc: Global, files: &[(Text, Text)]) -> Result<Vec<(Text, Text)>, No
 {
     let mut copies = Vec::with_capacity(alloc, files.len())?;
     for (path, bytes) in files {
-        copies.push((path.copy(alloc)?, bytes.copy(alloc)?))?;
+        let path = Text::from_slice(alloc, path.as_slice())?;
+        copies.push((path, Text::from_slice(alloc, bytes.as_slice())?))?;
     }
     Ok(copies)
 }

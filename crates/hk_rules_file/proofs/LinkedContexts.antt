@@ -1,5 +1,5 @@
 -- Contexts that are read have numbers in range, and their names differ.
-use Rattle.std.proofs.Common.{◌≡◌, ℕ, ◌-◌, ◌+◌, ◌<◌, ◌≤◌, Bool, true, false, cond, not, List, [], ◌∷◌, ◌++◌, length, map, Option, Some, None, Result, Ok, Err, IfOk, refl, sym, ap, subst, ◌∙◌, arith, length-append, append_assoc, append-nil}
+use Rattle.std.proofs.Common.{◌≡◌, ℕ, ◌-◌, ◌+◌, ◌≤◌, Bool, true, false, cond, not, List, [], ◌∷◌, ◌++◌, length, Option, Some, None, Result, Ok, Err, IfOk, refl, sym, ap, subst, ◌∙◌, arith, length-append, append_assoc, append-nil}
 use Rattle.std.specs.Prelude.{bytes_eq, nat_le, ◌&&◌}
 use Rattle.std.specs.List.{AllByRecursion, IsDistinct}
 use Rattle.std.proofs.lemmas.List.{map-append, length-map}
@@ -14,7 +14,7 @@ use Rattle.hk_rules_file.specs.ContextForm.{is_early, in_part, with_part, with_n
 use Rattle.hk_steps.specs.FieldForm.{context_fields}
 use Rattle.hk_rules_file.specs.ContextNames.{keys_in}
 use Rattle.hk_rules_file.specs.Linked.{name_of, context_names}
-use Rattle.hk_rules_file.specs.Linking.{link_fields, default_fields}
+use Rattle.hk_rules_file.specs.Linking.{link_fields}
 use Rattle.hk_forms.specs.Names.{is_context_name}
 use Rattle.hk_rules_file.specs.Numbering.{place_of, texts_of, with_name, with_name_by}
 use Rattle.hk_steps.specs.StepForm.{default_name}

@@ -1,5 +1,5 @@
 -- Fields that are read have numbers in range, and dates' patterns of their form.
-use Rattle.std.proofs.Common.{◌≡◌, ℕ, ◌<◌, ◌≤◌, Bool, true, false, cond, ◌&&◌, List, [], ◌∷◌, ◌++◌, length, Option, Some, None, IfSome, refl, arith, ℤ, pos, negsuc}
+use Rattle.std.proofs.Common.{◌≡◌, ℕ, ◌≤◌, Bool, true, false, cond, ◌&&◌, List, [], ◌∷◌, length, Option, Some, None, IfSome, refl, arith, ℤ, pos, negsuc}
 use Rattle.std.specs.Prelude.{bytes_eq, codes, nat_le, option_map, option_and_then}
 use Rattle.std.specs.List.{AllByRecursion}
 use borrow.Author.Tests.{leb-true}

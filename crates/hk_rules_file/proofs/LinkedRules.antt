@@ -1,43 +1,27 @@
 -- Rules that are read have numbers in range, and their names differ.
-use Rattle.std.proofs.Common.{◌≡◌, ℕ, ◌+◌, ◌≤◌, true, false, List, [], ◌∷◌, ◌++◌, length, Option, Some, None, option_map, Result, Ok, Err, IfOk, refl, sym, ap, subst, ◌∙◌, arith, Global, String, string_bytes, string_cmp, BTreeMap}
+use Rattle.std.proofs.Common.{◌≡◌, ℕ, ◌+◌, ◌≤◌, true, false, List, [], ◌∷◌, ◌++◌, length, Option, Some, None, option_map, Result, Ok, Err, IfOk, arith}
 use Rattle.std.specs.Prelude.{bytes_eq, codes, is_some}
-use Rattle.std.specs.BTreeMap.{IsOrdered}
-use Rattle.std.specs.List.{AllByRecursion, IsDistinct}
-use Rattle.std.specs.List.Sorted.{IsStrictlySortedBy}
-use Rattle.std.specs.Map.{keys_of}
-use Rattle.std.specs.Ordering.{is_eq}
-use Rattle.std.specs.declared.cmp.Ordering.TheVariants.{Less}
-use Rattle.std.proofs.lemmas.Map.Text.{is_eq-slice_cmp}
+use Rattle.std.specs.List.{AllByRecursion}
 use Rattle.toml.specs.Data.{Data, Items, no_items, item, Members, as_table, get_member}
-use Rattle.toml.specs.View.{members_view, table_view}
-use Rattle.toml.specs.declared.value.Value.{Value}
-use Rattle.hk_base.specs.Answers.{Answers}
 use Rattle.hk_base.specs.Bytes.{Bytes}
-use Rattle.hk_base.specs.declared.refusal.Refusal.{Refusal}
-use Rattle.hk_base.specs.declared.refusal.Refusal.TheVariants.{Fault, NoMemory}
-use Rattle.hk_chain.specs.Context.{ContextView}
 use Rattle.hk_chain.specs.declared.chain.Step.{Step}
 use Rattle.hk_pattern.specs.declared.pattern.Pattern.{Pattern}
 use Rattle.hk_route.specs.declared.route.Route.{Route}
-use Rattle.hk_rules_file.specs.ContextForm.{names_of, contexts_in}
-use Rattle.hk_rules_file.specs.Linked.{IsStepWithin, IsLinkedChain, has_bytes, IsRouted, IsLinked}
+use Rattle.hk_rules_file.specs.Linked.{IsStepWithin, IsLinkedChain, has_bytes, IsRouted}
 use Rattle.hk_rules_file.specs.Linking.{link_steps}
 use Rattle.hk_rules_file.specs.RuleForm.{draft_by, draft_in, source_in, steps_in, optional, first_other, is_rule_key, finished, numbered_rule, rule_by, next_rule, rules_from}
-use Rattle.hk_rules_file.specs.RulesForm.{whole, after_contexts, parts_in}
 use Rattle.hk_forms.specs.IdForm.{version_of}
 use Rattle.hk_forms.specs.Names.{is_snapshot_name}
 use Rattle.hk_forms.specs.RouteForm.{route_of}
-use Rattle.hk_rules_file.specs.Rules.{RulesView}
-use Rattle.hk_steps.specs.StepForm.{final_name, chain_by}
+use Rattle.hk_steps.specs.StepForm.{final_name}
 use Rattle.hk_rules_file.specs.declared.draft_rule.DraftRule.{DraftRule}
 use Rattle.hk_steps.specs.declared.draft.DraftStep.{DraftStep}
 use Rattle.hk_rules_file.specs.declared.rules.Rule.{Rule}
 use Rattle.hk_rules_file.specs.declared.rules.RuleSource.{RuleSource}
 use Rattle.hk_rules_file.specs.declared.fault.RulesFault.{RulesFault}
 use Rattle.hk_rules_file.proofs.LinkedNumbers.{all-push, all-weaken, distinct-push, IsGrown, grown-same, grown-more}
-use Rattle.hk_rules_file.proofs.LinkedSteps.{Holds, IsReady, AreSaves, no-saves, AreLinkedSteps, chain-ready, chain-short, link_steps-length, not-final, within-more, link_steps-linked}
+use Rattle.hk_rules_file.proofs.LinkedSteps.{Holds, IsReady, no-saves, AreLinkedSteps, chain-ready, chain-short, link_steps-length, not-final, within-more, link_steps-linked}
 use Rattle.hk_rules_file.proofs.LinkedRoutes.{route-bytes}
-use Rattle.hk_rules_file.proofs.LinkedContexts.{keys_in, AreContexts, contexts-more, contexts_in-contexts, contexts-distinct, contexts-many}
 
 -- ---- rules
 

@@ -14,7 +14,6 @@ use Rattle.toml.specs.declared.value.Value.{Value}
 use Rattle.hk_base.specs.Answers.{Answers}
 use Rattle.hk_base.specs.Bytes.{Bytes}
 use Rattle.hk_base.specs.declared.refusal.Refusal.{Refusal}
-use Rattle.hk_base.specs.declared.refusal.Refusal.TheVariants.{Fault, NoMemory}
 use Rattle.hk_chain.specs.Context.{ContextView}
 use Rattle.hk_chain.specs.declared.chain.Step.{Step}
 use Rattle.hk_chain.specs.declared.context.Order.TheVariants.{Id, Recent}
@@ -24,7 +23,7 @@ use Rattle.hk_route.specs.declared.route.Route.{Route}
 use Rattle.hk_rules_file.specs.ContextForm.{names_of, contexts_in}
 use Rattle.hk_rules_file.specs.ContextNames.{keys_in}
 use Rattle.hk_rules_file.specs.FeedForm.{kind_at, email_at, snapshot_at, count_or_ten, limit_at, feed_in, feed_by, feed_of, feeds_from}
-use Rattle.hk_rules_file.specs.Linked.{IsCount, IsLinkedChain, IsRouted, IsLinked, IsLinkedTable, AreTagsLinked, ArePagesLinked, HasLinkedTables}
+use Rattle.hk_rules_file.specs.Linked.{IsCount, IsRouted, IsLinked, IsLinkedTable, AreTagsLinked, ArePagesLinked, HasLinkedTables}
 use Rattle.hk_rules_file.specs.Linking.{link_steps}
 use Rattle.hk_rules_file.specs.Numbering.{place_of}
 use Rattle.hk_rules_file.specs.PagesForm.{pages_in, pages_by, pages_of, pages_from}

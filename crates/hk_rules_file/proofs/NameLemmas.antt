@@ -1,5 +1,5 @@
 -- The contexts' names ascend, and are those by which numbers are found.
-use Rattle.std.proofs.Common.{◌≡◌, ◌⊎◌, inl, inr, ℕ, suc, Bool, true, false, cond, not, List, [], ◌∷◌, ◌++◌, refl, sym, ap, subst, ◌∙◌, append_assoc, append-nil, Option, Some, None, option_map, Result, Ok, Err, IfOk}
+use Rattle.std.proofs.Common.{◌≡◌, ◌⊎◌, inl, inr, suc, Bool, true, false, cond, not, List, [], ◌∷◌, ◌++◌, refl, sym, ap, subst, ◌∙◌, append_assoc, append-nil, Some, None, option_map, Result, Ok, IfOk}
 use Rattle.std.specs.Prelude.{bytes_eq}
 use Rattle.std.specs.Cmp.Lexicographic.{slice_cmp, nat_list_cmp_total}
 use Rattle.std.specs.List.{AllByRecursion}
@@ -13,9 +13,8 @@ use Rattle.hk_base.specs.Ties.{only_equal_tie, bytes-same, bytes-self}
 use Rattle.hk_base.proofs.Both.{not-both}
 use Rattle.hk_chain.specs.Context.{ContextView}
 use Rattle.hk_pattern.specs.declared.pattern.Pattern.{Pattern}
-use Rattle.hk_rules_file.specs.ContextForm.{is_early, in_part, with_part, with_names, names_of, contexts_in}
+use Rattle.hk_rules_file.specs.ContextForm.{is_early, in_part, with_names, names_of, contexts_in}
 use Rattle.hk_rules_file.specs.ContextNames.{keys_in, AreAscending, IsAmong, AreNames, NamesTellContexts}
-use Rattle.hk_rules_file.specs.Linked.{context_names}
 use Rattle.hk_rules_file.specs.Numbering.{place_of, with_name, with_name_by}
 use Rattle.hk_rules_file.specs.declared.fault.RulesFault.{RulesFault}
 use Rattle.hk_steps.specs.StepForm.{default_name}

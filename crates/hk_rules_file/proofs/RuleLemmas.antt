@@ -1,12 +1,15 @@
 -- The rules and tables before the first bad one are accepted alone.
-use Rattle.std.proofs.Common.{◌≡◌, ℕ, ◌+◌, Bool, true, false, ◌&&◌, List, [], ◌∷◌, ◌++◌, refl, sym, ap, subst, ◌∙◌, arith, Option, Some, None, is_some, Result, Ok, Err}
+use Rattle.std.proofs.Common.{◌≡◌, ℕ, ◌+◌, ◌-◌, Bool, true, false, ◌&&◌, List, [], ◌∷◌, ◌++◌, refl, sym, ap, subst, ◌∙◌, arith, Option, Some, None, is_some, Result, Ok, Err}
+use Rattle.std.specs.Prelude.{codes}
 use Rattle.std.specs.List.{list_any}
-use Rattle.toml.specs.Data.{Data, Items, no_items, item, Members, no_members, member, as_table}
+use Rattle.toml.specs.Data.{Data, Items, no_items, item, Members, no_members, member, get_member, as_table}
 use Rattle.hk_base.specs.Bytes.{Bytes}
 use Rattle.hk_base.specs.Identifier.{Ident}
 use Rattle.hk_chain.specs.Context.{ContextView}
 use Rattle.hk_chain.specs.declared.chain.Step.{Step}
+use Rattle.hk_forms.specs.IdForm.{version_of}
 use Rattle.hk_forms.specs.Members.{count_items}
+use Rattle.hk_forms.specs.RouteForm.{route_of}
 use Rattle.hk_pattern.specs.declared.pattern.Pattern.{Pattern}
 use Rattle.hk_route.specs.declared.route.Route.{Route}
 use Rattle.hk_rules_file.specs.ContextForm.{in_part, context_of, push_context, one_context, next_context, part_of, default_context, second_part, contexts_in, names_of, most_contexts}
@@ -14,7 +17,7 @@ use Rattle.hk_rules_file.specs.FeedForm.{feed_by, feed_of, feeds_from}
 use Rattle.hk_rules_file.specs.Linking.{Linked, saves_as, saving, ready_by, apply_step, self_step, link_step, next_step, link_steps}
 use Rattle.hk_rules_file.specs.Numbering.{place_of}
 use Rattle.hk_rules_file.specs.PagesForm.{pages_by, pages_of, pages_from}
-use Rattle.hk_rules_file.specs.RuleForm.{draft_by, draft_in, finished, numbered_rule, rule_by, next_rule, rules_from}
+use Rattle.hk_rules_file.specs.RuleForm.{optional, first_other, is_rule_key, source_in, steps_in, draft_by, draft_in, finished, numbered_rule, rule_by, next_rule, rules_from}
 use Rattle.hk_rules_file.specs.Rules.{RulesView}
 use Rattle.hk_rules_file.specs.RulesForm.{Read, are_tables, parts_in}
 use Rattle.hk_rules_file.specs.Saves.{saved}
@@ -24,6 +27,7 @@ use Rattle.hk_steps.specs.declared.draft.DraftStep.{DraftStep}
 use Rattle.hk_steps.specs.declared.draft.DraftStep.TheVariants.{Ready, Concat as DraftConcat, Apply as DraftApply, SelfApply as DraftSelf}
 use Rattle.hk_rules_file.specs.declared.fault.RulesFault.{RulesFault}
 use Rattle.hk_rules_file.specs.declared.fault.RulesFault.TheVariants.{TooLong, NotToml, BadRule, TooManyRules, BadContext, DoubleSnapshot, UnknownContext, BadTags, BadPaginate, BadFeed}
+use Rattle.hk_rules_file.specs.declared.draft_rule.DraftRule.{DraftRule}
 use Rattle.hk_rules_file.specs.declared.rules.Rule.{Rule}
 use Rattle.hk_rules_file.specs.declared.rules.RuleSource.{RuleSource}
 use Rattle.hk_rules_file.specs.declared.table_form.TableKind.{TableKind}
@@ -100,17 +104,17 @@ draft_numbers n None (Ok source) (Some version) None steps = refl
 draft_numbers n None (Ok source) (Some version) (Some route) None = refl
 draft_numbers n None (Ok source) (Some version) (Some route) (Some steps) = tt
 
-finished_numbers : (n : ℕ) (draft : _) (r : Result (List Step × List Pattern) RulesFault) → Numbers n r → Numbers n (finished draft r)
+finished_numbers : (n : ℕ) (draft : DraftRule) (r : Result (List Step × List Pattern) RulesFault) → Numbers n r → Numbers n (finished draft r)
 finished_numbers n draft (Ok r) h = tt
 finished_numbers n draft (Err fault) h = h
 
-rule_numbers : (n : ℕ) (names : List Bytes) (pool : List Pattern) (d : Result _ RulesFault) → Numbers n d → Numbers n (numbered_rule n names pool d)
+rule_numbers : (n : ℕ) (names : List Bytes) (pool : List Pattern) (d : Result DraftRule RulesFault) → Numbers n d → Numbers n (numbered_rule n names pool d)
 rule_numbers n names pool (Ok draft) h = finished_numbers n draft (link_steps n names draft.steps pool []) (steps_numbers n names draft.steps pool [])
 rule_numbers n names pool (Err fault) h = h
 
 draft_in_numbers : (n : ℕ) (ms : Members) → Numbers n (draft_in n ms)
 unfolding draft_in
-draft_in_numbers n ms = draft_numbers n _ _ _ _ _
+draft_in_numbers n ms = draft_numbers n (first_other is_rule_key ms) (source_in ms) (optional version_of (get_member (codes "version") ms)) (optional route_of (get_member (codes "route") ms)) (steps_in ms)
 
 table_numbers : (n : ℕ) (names : List Bytes) (pool : List Pattern) (ms : Option Members) → is_some ms ≡ true → Numbers n (rule_by n names pool ms)
 table_numbers n names pool None some = let no_ : ⊥ = cc in absurd no_
@@ -135,7 +139,8 @@ next_context_numbers rest (Err fault) h inner = h
 part_numbers : (early : Bool) (names : List Bytes) (ms : Members) (room : ℕ) (pool : List Pattern) (done : List ContextView) → ComesFrom of_contexts (part_of early names ms room pool done)
 part_numbers early names no_members room pool done = tt
 part_numbers early names (member name d ms) room pool done =
-    next_context_numbers _ _ (one_numbers (in_part early name) names room pool done name d) (λ pool' done'. part_numbers early names ms _ pool' done')
+    next_context_numbers (part_of early names ms (room - 1)) (one_context (in_part early name) names room pool done name d) (one_numbers (in_part early name) names room pool done name d)
+    (λ pool' done'. part_numbers early names ms (room - 1) pool' done')
 
 second_numbers : (names : List Bytes) (ms : Members) (r : Contexts) → ComesFrom of_contexts r → ComesFrom of_contexts (second_part names ms r)
 second_numbers names ms (Ok r) h = part_numbers false names ms most_contexts r.1 (r.0 ++ default_context ∷ [])
@@ -298,6 +303,18 @@ unpooled_err pool (Err other) fault e = let is : other ≡ fault = cc in ap (λ 
 
 -- ---- whole files
 
+abbrev Pooled : Type 0 → Type 0
+Pooled X = List X × List Pattern
+
+abbrev view_of : Pooled ContextView → Pooled Rule → Pooled TagRule → Pooled PageRule → List FeedRule → RulesView
+view_of c r t p f = record { rules = r.0; contexts = c.0; patterns = p.1; tags = t.0; pages = p.0; feeds = f }
+
+abbrev whole_of : Pooled ContextView → Pooled Rule → Pooled TagRule → Pooled PageRule → List FeedRule → Read
+whole_of c r t p f = Ok (view_of c r t p f)
+
+read_on : {X : Type 0} (next : X → Read) (a b : Result X RulesFault) → a ≡ b → and_then a next ≡ and_then b next
+read_on {X} next a b e = ap (λ (x : Result X RulesFault). and_then x next) e
+
 module _ (ms : Members) (rules tags pages feeds : Items) where
   abbrev Tells : RulesFault → Type 0
   Tells fault = TellsFirst ms rules tags pages feeds fault
@@ -370,96 +387,118 @@ module _ (ms : Members) (rules tags pages feeds : Items) where
   abbrev names : List Bytes
   names = names_of ms
 
-  abbrev with_feeds : Items → List ContextView × List Pattern → List Rule × List Pattern → List TagRule × List Pattern → List PageRule × List Pattern → Read
-  with_feeds fs c r t p = and_then (feeds_from fs 1 []) (λ f. Ok (record { rules = r.0; contexts = c.0; patterns = p.1; tags = t.0; pages = p.0; feeds = f }))
+  abbrev with_feeds : Items → Pooled ContextView → Pooled Rule → Pooled TagRule → Pooled PageRule → Read
+  with_feeds fs c r t p = and_then (feeds_from fs 1 []) (whole_of c r t p)
 
-  abbrev with_pages : Items → Items → List ContextView × List Pattern → List Rule × List Pattern → List TagRule × List Pattern → Read
+  abbrev with_pages : Items → Items → Pooled ContextView → Pooled Rule → Pooled TagRule → Read
   with_pages ps fs c r t = and_then (pages_from names ps 1 t.1 []) (with_feeds fs c r t)
 
-  abbrev with_tags : Items → Items → Items → List ContextView × List Pattern → List Rule × List Pattern → Read
+  abbrev with_tags : Items → Items → Items → Pooled ContextView → Pooled Rule → Read
   with_tags ts ps fs c r = and_then (tags_from names ts 1 r.1 []) (with_pages ps fs c r)
 
-  abbrev with_rules : Items → Items → Items → Items → List ContextView × List Pattern → Read
+  abbrev with_rules : Items → Items → Items → Items → Pooled ContextView → Read
   with_rules rs ts ps fs c = and_then (rules_from names rs 1 c.1 []) (with_tags ts ps fs c)
+
+  after_contexts : (rs ts ps fs : Items) (c : Pooled ContextView) → contexts_in names ms ≡ Ok c → parts_in ms rs ts ps fs ≡ with_rules rs ts ps fs c
+  after_contexts rs ts ps fs c ec = read_on (with_rules rs ts ps fs) (contexts_in names ms) (Ok c) ec
+
+  after_rules : (ts ps fs : Items) (c : Pooled ContextView) (r : Pooled Rule) → contexts_in names ms ≡ Ok c → rules_from names rules 1 c.1 [] ≡ Ok r → parts_in ms rules ts ps fs ≡ with_tags ts ps fs c r
+  after_rules ts ps fs c r ec er = after_contexts rules ts ps fs c ec ∙ read_on (with_tags ts ps fs c) (rules_from names rules 1 c.1 []) (Ok r) er
+
+  after_tags : (ps fs : Items) (c : Pooled ContextView) (r : Pooled Rule) (t : Pooled TagRule) → contexts_in names ms ≡ Ok c → rules_from names rules 1 c.1 [] ≡ Ok r → tags_from names tags 1 r.1 [] ≡ Ok t
+      → parts_in ms rules tags ps fs ≡ with_pages ps fs c r t
+  after_tags ps fs c r t ec er et = after_rules tags ps fs c r ec er ∙ read_on (with_pages ps fs c r) (tags_from names tags 1 r.1 []) (Ok t) et
+
+  after_pages : (fs : Items) (c : Pooled ContextView) (r : Pooled Rule) (t : Pooled TagRule) (p : Pooled PageRule) → contexts_in names ms ≡ Ok c → rules_from names rules 1 c.1 [] ≡ Ok r → tags_from names tags 1 r.1 [] ≡ Ok t
+      → pages_from names pages 1 t.1 [] ≡ Ok p → parts_in ms rules tags pages fs ≡ with_feeds fs c r t p
+  after_pages fs c r t p ec er et ep = after_tags pages fs c r t ec er et ∙ read_on (with_feeds fs c r t) (pages_from names pages 1 t.1 []) (Ok p) ep
 
   err_of : (other fault : RulesFault) → (let r : Read = Err other in r ≡ Err fault) → other ≡ fault
   err_of other fault e = cc
 
+  whole_is_err : {A : Type 0} (whole : RulesView) (fault : RulesFault) → (let r : Read = Ok whole in r ≡ Err fault) → A
+  whole_is_err whole fault e = let no_ : ⊥ = cc in absurd no_
+
   module _ (are : AreTables rules tags pages feeds) (fault : RulesFault) where
-    feeds_first : (c : List ContextView × List Pattern) (r : List Rule × List Pattern) (t : List TagRule × List Pattern) (p : List PageRule × List Pattern) → contexts_in names ms ≡ Ok c → rules_from names rules 1 c.1 [] ≡ Ok r → tags_from names tags 1 r.1 [] ≡ Ok t → pages_from names pages 1 t.1 [] ≡ Ok p
-        → (f : Result (List FeedRule) RulesFault) → feeds_from feeds 1 [] ≡ f → and_then f (λ fs. Ok (record { rules = r.0; contexts = c.0; patterns = p.1; tags = t.0; pages = p.0; feeds = fs })) ≡ Err fault → Tells fault
-    feeds_first c r t p ec er et ep (Ok fs) ef e = let no_ : ⊥ = cc in absurd no_
+    feeds_first : (c : Pooled ContextView) (r : Pooled Rule) (t : Pooled TagRule) (p : Pooled PageRule) → contexts_in names ms ≡ Ok c → rules_from names rules 1 c.1 [] ≡ Ok r → tags_from names tags 1 r.1 [] ≡ Ok t → pages_from names pages 1 t.1 [] ≡ Ok p
+        → (f : Result (List FeedRule) RulesFault) → feeds_from feeds 1 [] ≡ f → and_then f (whole_of c r t p) ≡ Err fault → Tells fault
+    feeds_first c r t p ec er et ep (Ok fs) ef e = whole_is_err (view_of c r t p fs) fault e
     feeds_first c r t p ec er et ep (Err other) ef e =
         let is : other ≡ fault = err_of other fault e in
-        let refused : feeds_read feeds 1 [] [] ≡ Err fault = ap (with_pool []) (ef ∙ ap (λ (x : RulesFault). Err x) is) in
+        let bad : feeds_from feeds 1 [] ≡ Err fault = ef ∙ ap (λ (x : RulesFault). Err x) is in
+        let refused : feeds_read feeds 1 [] [] ≡ Err fault = ap (λ (x : Result (List FeedRule) RulesFault). with_pool [] x) bad in
         let found = bad_from feed_read feeds_read feeds_each (of_table Feed) (λ n pool d some. pooled_told (of_table Feed n) pool (feed_of n (as_table d)) (feed_told n (as_table d) some)) feeds 1 [] [] fault are.feeds_are refused in
-        let upto : (ds : Items) → FeedsAlone ds ≡ with_feeds ds c r t p =
-        λ ds. ap (λ x. and_then x (with_rules rules tags pages ds)) ec ∙ ap (λ x. and_then x (with_tags tags pages ds c)) er ∙ ap (λ x. and_then x (with_pages pages ds c r)) et ∙ ap (λ x. and_then x (with_feeds ds c r t)) ep in
-        tells_table fault Feed (1 + count_items found.before) found.place
-        (record {
+        let upto : (ds : Items) → FeedsAlone ds ≡ with_feeds ds c r t p = λ ds. after_pages ds c r t p ec er et ep in
+        let with_bad : Items = joined_items found.before (item found.bad no_items) in
+        let first : IsFirstBad FeedsAlone feeds (1 + count_items found.before) fault = record {
           before = found.before;
           bad = found.bad;
           after = found.after;
           same = found.same;
           place = omega arith;
-          accepted = (_, upto found.before ∙ ap (λ x. and_then x (λ fs. Ok (record { rules = r.0; contexts = c.0; patterns = p.1; tags = t.0; pages = p.0; feeds = fs }))) (unpooled_ok [] (feeds_from found.before 1 []) found.accepted.0 found.accepted.1));
-          refused = upto (joined_items found.before (item found.bad no_items)) ∙ ap (λ x. and_then x (λ fs. Ok (record { rules = r.0; contexts = c.0; patterns = p.1; tags = t.0; pages = p.0; feeds = fs }))) (unpooled_err [] (feeds_from (joined_items found.before (item found.bad no_items)) 1 []) fault found.refused);
-        })
+          accepted = (view_of c r t p found.accepted.0.0, upto found.before ∙ read_on (whole_of c r t p) (feeds_from found.before 1 []) (Ok found.accepted.0.0) (unpooled_ok [] (feeds_from found.before 1 []) found.accepted.0 found.accepted.1));
+          refused = upto with_bad ∙ read_on (whole_of c r t p) (feeds_from with_bad 1 []) (Err fault) (unpooled_err [] (feeds_from with_bad 1 []) fault found.refused);
+        } in
+        tells_table fault Feed (1 + count_items found.before) found.place first
 
-    pages_first : (c : List ContextView × List Pattern) (r : List Rule × List Pattern) (t : List TagRule × List Pattern) → contexts_in names ms ≡ Ok c → rules_from names rules 1 c.1 [] ≡ Ok r → tags_from names tags 1 r.1 [] ≡ Ok t
-        → (p : Result (List PageRule × List Pattern) RulesFault) → pages_from names pages 1 t.1 [] ≡ p → and_then p (with_feeds feeds c r t) ≡ Err fault → Tells fault
+    pages_first : (c : Pooled ContextView) (r : Pooled Rule) (t : Pooled TagRule) → contexts_in names ms ≡ Ok c → rules_from names rules 1 c.1 [] ≡ Ok r → tags_from names tags 1 r.1 [] ≡ Ok t
+        → (p : Listed PageRule) → pages_from names pages 1 t.1 [] ≡ p → and_then p (with_feeds feeds c r t) ≡ Err fault → Tells fault
     pages_first c r t ec er et (Ok p) ep e = feeds_first c r t p ec er et ep (feeds_from feeds 1 []) refl e
     pages_first c r t ec er et (Err other) ep e =
         let is : other ≡ fault = err_of other fault e in
-        let found = bad_from (pages_read names) (pages_from names) (pages_each names) (of_table Paginate) (λ n pool d some. pages_told names n pool (as_table d) some) pages 1 t.1 [] fault are.pages_are (ep ∙ ap (λ (x : RulesFault). Err x) is) in
-        let upto : (ds : Items) → PagesAlone ds ≡ with_pages ds no_items c r t =
-        λ ds. ap (λ x. and_then x (with_rules rules tags ds no_items)) ec ∙ ap (λ x. and_then x (with_tags tags ds no_items c)) er ∙ ap (λ x. and_then x (with_pages ds no_items c r)) et in
-        tells_table fault Paginate (1 + count_items found.before) found.place
-        (record {
+        let refused : pages_from names pages 1 t.1 [] ≡ Err fault = ep ∙ ap (λ (x : RulesFault). Err x) is in
+        let found = bad_from (pages_read names) (pages_from names) (pages_each names) (of_table Paginate) (λ n pool d some. pages_told names n pool (as_table d) some) pages 1 t.1 [] fault are.pages_are refused in
+        let upto : (ds : Items) → PagesAlone ds ≡ with_pages ds no_items c r t = λ ds. after_tags ds no_items c r t ec er et in
+        let with_bad : Items = joined_items found.before (item found.bad no_items) in
+        let first : IsFirstBad PagesAlone pages (1 + count_items found.before) fault = record {
           before = found.before;
           bad = found.bad;
           after = found.after;
           same = found.same;
           place = omega arith;
-          accepted = (_, upto found.before ∙ ap (λ x. and_then x (with_feeds no_items c r t)) found.accepted.1);
-          refused = upto (joined_items found.before (item found.bad no_items)) ∙ ap (λ x. and_then x (with_feeds no_items c r t)) found.refused;
-        })
+          accepted = (view_of c r t found.accepted.0 [], upto found.before ∙ read_on (with_feeds no_items c r t) (pages_from names found.before 1 t.1 []) (Ok found.accepted.0) found.accepted.1);
+          refused = upto with_bad ∙ read_on (with_feeds no_items c r t) (pages_from names with_bad 1 t.1 []) (Err fault) found.refused;
+        } in
+        tells_table fault Paginate (1 + count_items found.before) found.place first
 
-    tags_first : (c : List ContextView × List Pattern) (r : List Rule × List Pattern) → contexts_in names ms ≡ Ok c → rules_from names rules 1 c.1 [] ≡ Ok r
-        → (t : Result (List TagRule × List Pattern) RulesFault) → tags_from names tags 1 r.1 [] ≡ t → and_then t (with_pages pages feeds c r) ≡ Err fault → Tells fault
+    tags_first : (c : Pooled ContextView) (r : Pooled Rule) → contexts_in names ms ≡ Ok c → rules_from names rules 1 c.1 [] ≡ Ok r
+        → (t : Listed TagRule) → tags_from names tags 1 r.1 [] ≡ t → and_then t (with_pages pages feeds c r) ≡ Err fault → Tells fault
     tags_first c r ec er (Ok t) et e = pages_first c r t ec er et (pages_from names pages 1 t.1 []) refl e
     tags_first c r ec er (Err other) et e =
         let is : other ≡ fault = err_of other fault e in
-        let found = bad_from (tags_read names) (tags_from names) (tags_each names) (of_table Tags) (λ n pool d some. tags_told names n pool (as_table d) some) tags 1 r.1 [] fault are.tags_are (et ∙ ap (λ (x : RulesFault). Err x) is) in
-        let upto : (ds : Items) → TagsAlone ds ≡ with_tags ds no_items no_items c r =
-        λ ds. ap (λ x. and_then x (with_rules rules ds no_items no_items)) ec ∙ ap (λ x. and_then x (with_tags ds no_items no_items c)) er in
-        tells_table fault Tags (1 + count_items found.before) found.place
-        (record {
+        let refused : tags_from names tags 1 r.1 [] ≡ Err fault = et ∙ ap (λ (x : RulesFault). Err x) is in
+        let found = bad_from (tags_read names) (tags_from names) (tags_each names) (of_table Tags) (λ n pool d some. tags_told names n pool (as_table d) some) tags 1 r.1 [] fault are.tags_are refused in
+        let upto : (ds : Items) → TagsAlone ds ≡ with_tags ds no_items no_items c r = λ ds. after_rules ds no_items no_items c r ec er in
+        let with_bad : Items = joined_items found.before (item found.bad no_items) in
+        let first : IsFirstBad TagsAlone tags (1 + count_items found.before) fault = record {
           before = found.before;
           bad = found.bad;
           after = found.after;
           same = found.same;
           place = omega arith;
-          accepted = (_, upto found.before ∙ ap (λ x. and_then x (with_pages no_items no_items c r)) found.accepted.1);
-          refused = upto (joined_items found.before (item found.bad no_items)) ∙ ap (λ x. and_then x (with_pages no_items no_items c r)) found.refused;
-        })
+          accepted = (view_of c r found.accepted.0 ([], found.accepted.0.1) [], upto found.before ∙ read_on (with_pages no_items no_items c r) (tags_from names found.before 1 r.1 []) (Ok found.accepted.0) found.accepted.1);
+          refused = upto with_bad ∙ read_on (with_pages no_items no_items c r) (tags_from names with_bad 1 r.1 []) (Err fault) found.refused;
+        } in
+        tells_table fault Tags (1 + count_items found.before) found.place first
 
-    rules_first : (c : List ContextView × List Pattern) → contexts_in names ms ≡ Ok c → (r : Result (List Rule × List Pattern) RulesFault) → rules_from names rules 1 c.1 [] ≡ r → and_then r (with_tags tags pages feeds c) ≡ Err fault → Tells fault
+    rules_first : (c : Pooled ContextView) → contexts_in names ms ≡ Ok c → (r : Listed Rule) → rules_from names rules 1 c.1 [] ≡ r → and_then r (with_tags tags pages feeds c) ≡ Err fault → Tells fault
     rules_first c ec (Ok r) er e = tags_first c r ec er (tags_from names tags 1 r.1 []) refl e
     rules_first c ec (Err other) er e =
         let is : other ≡ fault = err_of other fault e in
-        let found = bad_from (rule_read names) (rules_from names) (rules_each names) of_rule (λ n pool d some. table_numbers n names pool (as_table d) some) rules 1 c.1 [] fault are.rules_are (er ∙ ap (λ (x : RulesFault). Err x) is) in
-        let upto : (ds : Items) → RulesAlone ds ≡ with_rules ds no_items no_items no_items c = λ ds. ap (λ x. and_then x (with_rules ds no_items no_items no_items)) ec in
-        tells_rule fault (1 + count_items found.before) found.place
-        (record {
+        let refused : rules_from names rules 1 c.1 [] ≡ Err fault = er ∙ ap (λ (x : RulesFault). Err x) is in
+        let found = bad_from (rule_read names) (rules_from names) (rules_each names) of_rule (λ n pool d some. table_numbers n names pool (as_table d) some) rules 1 c.1 [] fault are.rules_are refused in
+        let upto : (ds : Items) → RulesAlone ds ≡ with_rules ds no_items no_items no_items c = λ ds. after_contexts ds no_items no_items no_items c ec in
+        let with_bad : Items = joined_items found.before (item found.bad no_items) in
+        let first : IsFirstBad RulesAlone rules (1 + count_items found.before) fault = record {
           before = found.before;
           bad = found.bad;
           after = found.after;
           same = found.same;
           place = omega arith;
-          accepted = (_, upto found.before ∙ ap (λ x. and_then x (with_tags no_items no_items no_items c)) found.accepted.1);
-          refused = upto (joined_items found.before (item found.bad no_items)) ∙ ap (λ x. and_then x (with_tags no_items no_items no_items c)) found.refused;
-        })
+          accepted = (view_of c found.accepted.0 ([], found.accepted.0.1) ([], found.accepted.0.1) [], upto found.before ∙ read_on (with_tags no_items no_items no_items c) (rules_from names found.before 1 c.1 []) (Ok found.accepted.0) found.accepted.1);
+          refused = upto with_bad ∙ read_on (with_tags no_items no_items no_items c) (rules_from names with_bad 1 c.1 []) (Err fault) found.refused;
+        } in
+        tells_rule fault (1 + count_items found.before) found.place first
 
     parts_first : (c : Contexts) → contexts_in names ms ≡ c → ComesFrom of_contexts c → and_then c (with_rules rules tags pages feeds) ≡ Err fault → Tells fault
     parts_first (Ok c) ec from e = rules_first c ec (rules_from names rules 1 c.1 []) refl e

@@ -38,7 +38,18 @@ limit_at ms = required (codes "limit") (count_or_ten (get_member (codes "limit")
 
 abbrev pub whole : FeedKind → Bytes → Pattern → Bytes → Bytes → Bytes → Bytes → Option Bytes → Bytes → ℕ → Result FeedRule Bytes
 whole kind target of title description author root email snapshot limit =
-    Ok (record { kind = kind; target = target; of = of; title = title; description = description; author = author; root = root; email = email; snapshot = snapshot; limit = limit })
+    Ok (record {
+      kind = kind;
+      target = target;
+      of = of;
+      title = title;
+      description = description;
+      author = author;
+      root = root;
+      email = email;
+      snapshot = snapshot;
+      limit = limit;
+    })
 
 -- a feed, or the first of its table's keys that is at fault
 abbrev pub feed_in : Members → Result FeedRule Bytes

@@ -1,5 +1,5 @@
 -- The numbers in steps are the places of what is written there.
-use Rattle.std.specs.Prelude.{◌≡◌, ℕ, List, [], ◌∷◌, ◌++◌, length, Result, Ok}
+use Rattle.std.specs.Prelude.{◌≡◌, ℕ, List, [], ◌∷◌, ◌++◌, length, Ok}
 use Rattle.hk_base.specs.Bytes.{Bytes}
 use Rattle.hk_chain.specs.declared.chain.Step.{Step}
 use Rattle.hk_chain.specs.declared.chain.Step.TheVariants.{Concat, Apply, SelfApply}
@@ -7,7 +7,6 @@ use Rattle.hk_forms.specs.PatternText.{text_of}
 use Rattle.hk_pattern.specs.declared.pattern.Pattern.{Pattern}
 use Rattle.hk_rules_file.specs.Linking.{link_steps}
 use Rattle.hk_rules_file.specs.Numbering.{texts_of}
-use Rattle.hk_rules_file.specs.declared.fault.RulesFault.{RulesFault}
 use Rattle.hk_steps.specs.declared.draft.DraftStep.{DraftStep}
 use Rattle.hk_steps.specs.declared.draft.DraftStep.TheVariants.{Ready, Concat as DraftConcat, Apply as DraftApply, SelfApply as DraftSelf}
 

@@ -1,5 +1,5 @@
 -- The number in a refusal of a rules file is that of the first bad rule, or of the first bad table of its kind.
-use Rattle.std.specs.Prelude.{◌≡◌, ℕ, ◌+◌, true, Result, Ok, Err}
+use Rattle.std.specs.Prelude.{◌≡◌, ℕ, ◌+◌, true, Ok, Err}
 use Rattle.toml.specs.Data.{Data, Items, no_items, item, Members}
 use Rattle.hk_forms.specs.Members.{count_items}
 use Rattle.hk_rules_file.specs.Rules.{RulesView}

@@ -1,5 +1,5 @@
 -- What the tables for tags, numbered pages and feeds share: what stands at their keys, or the first key that is at fault.
-use Rattle.std.specs.Prelude.{ℕ, Bool, ◌||◌, nat_lt, List, [], ◌∷◌, Option, Some, None, option_and_then, Result, Ok, Err, codes, bytes_eq, if◌then◌else◌}
+use Rattle.std.specs.Prelude.{ℕ, Bool, true, ◌||◌, nat_lt, List, [], Option, Some, None, option_and_then, Result, Ok, Err, codes, bytes_eq, if◌then◌else◌}
 use Rattle.toml.specs.Data.{Data, Members, get_member, as_str}
 use Rattle.hk_base.specs.Bytes.{Bytes}
 use Rattle.hk_chain.specs.declared.chain.Step.{Step}
@@ -14,7 +14,7 @@ use Rattle.hk_steps.specs.StepForm.{default_name, chain_by}
 use Rattle.hk_steps.specs.declared.draft.DraftStep.{DraftStep}
 use Rattle.hk_rules_file.specs.Linking.{link_steps}
 use Rattle.hk_rules_file.specs.Numbering.{place_of}
-use Rattle.hk_rules_file.specs.RuleForm.{optional, first_other}
+use Rattle.hk_rules_file.specs.RuleForm.{optional}
 use Rattle.hk_rules_file.specs.declared.fault.RulesFault.{RulesFault}
 use Rattle.hk_rules_file.specs.declared.fault.RulesFault.TheVariants.{BadRule, BadTags, BadPaginate, BadFeed}
 use Rattle.hk_rules_file.specs.declared.table_form.TableKind.{TableKind}
@@ -89,10 +89,14 @@ is_shared_key k =
     || ((bytes_eq k (codes "context") || bytes_eq k (codes "item")) || bytes_eq k (codes "order"))
 
 abbrev pub is_said_key : Bytes → Bool
-is_said_key k = (bytes_eq k (codes "title") || bytes_eq k (codes "description")) || ((bytes_eq k (codes "author") || bytes_eq k (codes "root")) || bytes_eq k (codes "email"))
+is_said_key k =
+    (bytes_eq k (codes "title") || bytes_eq k (codes "description"))
+    || ((bytes_eq k (codes "author") || bytes_eq k (codes "root")) || bytes_eq k (codes "email"))
 
 abbrev pub is_feed_key : Bytes → Bool
-is_feed_key k = ((bytes_eq k (codes "kind") || bytes_eq k (codes "target")) || (bytes_eq k (codes "of") || bytes_eq k (codes "snapshot"))) || (bytes_eq k (codes "limit") || is_said_key k)
+is_feed_key k =
+    ((bytes_eq k (codes "kind") || bytes_eq k (codes "target")) || (bytes_eq k (codes "of") || bytes_eq k (codes "snapshot")))
+    || (bytes_eq k (codes "limit") || is_said_key k)
 
 -- the keys that a table may have
 unfoldable pub is_table_key : TableKind → Bytes → Bool

@@ -4,7 +4,6 @@ ghost use Rattle.toml.specs.Data.{no_members};
 ghost use Rattle.toml.specs.View.{view, table_view, items_view};
 ghost use Rattle.hk_base.specs.Answers.{Answers};
 ghost use Rattle.hk_forms.specs.Members as members;
-ghost use Rattle.hk_rules_file.specs.ContextForm as context_form;
 ghost use Rattle.hk_rules_file.specs.Linked.{IsLinked, HasLinkedTables};
 ghost use Rattle.hk_rules_file.specs.RuleForm as rule_form;
 ghost use Rattle.hk_rules_file.specs.RulesForm as spec;
@@ -184,7 +183,9 @@ fn top_by(
     rules: Option<&[Value]>,
     tags: Option<&[Value]>,
 ) -> Result<Rules, Refusal<RulesFault>>
-    ensures read { Answers (spec.top_by other (option_map (λ m. table_view m.now) contexts.entry) (option_map (λ s. items_view s.now) feeds.entry) (option_map (λ s. items_view s.now) pages.entry) (option_map (λ s. items_view s.now) rules.entry) (option_map (λ s. items_view s.now) tags.entry)) result }
+    ensures read { Answers (spec.top_by other (option_map (λ m. table_view m.now) contexts.entry)
+        (option_map (λ s. items_view s.now) feeds.entry) (option_map (λ s. items_view s.now) pages.entry)
+        (option_map (λ s. items_view s.now) rules.entry) (option_map (λ s. items_view s.now) tags.entry)) result }
     ensures linked { IfOk result (λ r. IsLinked r) }
     ensures tables { IfOk result (λ r. HasLinkedTables r) }
 {
@@ -202,7 +203,9 @@ fn parts_by(
     rules: Option<&[Value]>,
     tags: Option<&[Value]>,
 ) -> Result<Rules, Refusal<RulesFault>>
-    ensures read { Answers (spec.parts_by (option_map (λ m. table_view m.now) contexts.entry) (option_map (λ s. items_view s.now) feeds.entry) (option_map (λ s. items_view s.now) pages.entry) (option_map (λ s. items_view s.now) rules.entry) (option_map (λ s. items_view s.now) tags.entry)) result }
+    ensures read { Answers (spec.parts_by (option_map (λ m. table_view m.now) contexts.entry)
+        (option_map (λ s. items_view s.now) feeds.entry) (option_map (λ s. items_view s.now) pages.entry)
+        (option_map (λ s. items_view s.now) rules.entry) (option_map (λ s. items_view s.now) tags.entry)) result }
     ensures linked { IfOk result (λ r. IsLinked r) }
     ensures tables { IfOk result (λ r. HasLinkedTables r) }
 {
@@ -237,7 +240,8 @@ fn unless_many(
     pages: &[Value],
     feeds: &[Value],
 ) -> Result<Rules, Refusal<RulesFault>>
-    ensures read { Answers (spec.unless_many (nat_lt spec.most_rules (members.count_items (items_view rules.now))) (table_view contexts.now) (items_view rules.now) (items_view tags.now) (items_view pages.now) (items_view feeds.now)) result }
+    ensures read { Answers (spec.unless_many (nat_lt spec.most_rules (members.count_items (items_view rules.now))) (table_view contexts.now)
+        (items_view rules.now) (items_view tags.now) (items_view pages.now) (items_view feeds.now)) result }
     ensures linked { IfOk result (λ r. IsLinked r) }
     ensures tables { IfOk result (λ r. HasLinkedTables r) }
 {
@@ -256,7 +260,8 @@ fn parts_in(
     feeds: &[Value],
 ) -> Result<Rules, Refusal<RulesFault>>
     requires { length rules.now ≤ 1024 }
-    ensures read { Answers (spec.parts_in (table_view contexts.now) (items_view rules.now) (items_view tags.now) (items_view pages.now) (items_view feeds.now)) result }
+    ensures read { Answers (spec.parts_in (table_view contexts.now) (items_view rules.now) (items_view tags.now)
+        (items_view pages.now) (items_view feeds.now)) result }
     ensures linked { IfOk result (λ r. IsLinked r) }
     ensures tables { IfOk result (λ r. HasLinkedTables r) }
 {
@@ -276,7 +281,8 @@ fn parts_with(
     feeds: &[Value],
 ) -> Result<Rules, Refusal<RulesFault>>
     requires { length rules.now ≤ 1024 }
-    ensures { Answers (spec.parts_with names.now (table_view contexts.now) (items_view rules.now) (items_view tags.now) (items_view pages.now) (items_view feeds.now)) result }
+    ensures { Answers (spec.parts_with names.now (table_view contexts.now) (items_view rules.now) (items_view tags.now)
+        (items_view pages.now) (items_view feeds.now)) result }
 {
     let (contexts, pool) = contexts_in(alloc, names, contexts)?;
     let (rules, pool) = rules_from(alloc, names, pool, rules)?;

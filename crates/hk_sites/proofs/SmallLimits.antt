@@ -1,5 +1,5 @@
 -- The limits of a linked plan's lists are below 2^64.
-use Rattle.std.proofs.Common.{ℕ, ◌≤◌, List, [], ◌∷◌, Option, Some, None, IfSome, arith}
+use Rattle.std.proofs.Common.{ℕ, List, [], ◌∷◌, length, Option, Some, None, IfSome, arith}
 use Rattle.std.specs.List.{AllByRecursion}
 use Rattle.hk_chain.specs.Context.{ContextView}
 use Rattle.hk_chain.specs.declared.context.Field.{Field}
@@ -35,4 +35,4 @@ small-contexts contexts patterns [] h = tt
 small-contexts contexts patterns (context ∷ more) h = (small-fields contexts patterns context.fields h.0, small-contexts contexts patterns more h.1)
 
 pub plans-limited : (plan : PlanView) → IsLinkedPlan plan → HasLimits plan
-plans-limited plan linked = small-contexts _ _ plan.contexts linked.named.within
+plans-limited plan linked = small-contexts (length plan.contexts) (length plan.patterns) plan.contexts linked.named.within

@@ -9,3 +9,4 @@ pub mod NameOrder
 pub mod Ordered
 pub mod Pages
 pub mod TagTexts
+pub mod Untabled

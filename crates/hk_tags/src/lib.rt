@@ -12,6 +12,8 @@ mod table_page;
 mod tag_fault;
 mod tag_pages;
 mod tag_texts;
+mod untabled;
 
 pub use expanding::expand;
 pub use tag_fault::TagFault;
+pub use untabled::without_tables;
