@@ -142,7 +142,7 @@ module _ (plan : PlanView) (over_entries : Entries) (empty : is_empty (report pl
       sym (ap is_finished (at-upto (ending plan over_entries) (length plan.items) i (waiting []) lt))
       ∙ each i (waiting []) (subst (λ n. i < n) (sym count) lt)
 
-  item-files : Files
+  abbrev item-files : Files
   item-files = files.site_of (plan_shape plan) (lookups plan).target_of (ending plan over_entries) (pages plan over_entries)
 
   items-are : item-files ≡ from_entries (bodies (flat_map (λ i. option_to_list (page_at plan (pages plan over_entries) i)) (upto (length plan.items))))
@@ -154,7 +154,7 @@ module _ (plan : PlanView) (over_entries : Entries) (empty : is_empty (report pl
       ∙ ap (λ l. from_entries l) (bodies-flat (λ i. option_to_list (page_at plan k i)) (upto (length plan.items)))
 
   feeds-are : bodies (feed_pages plan (pages plan over_entries)) ≡ feeds plan over_entries
-  feeds-are = sym (map-map (λ (e : Bytes × Page). (e.0, e.1.body)) (feed_page plan (pages plan over_entries)) plan.feeds)
+  feeds-are = map-map (λ (e : Bytes × Page). (e.0, e.1.body)) (feed_page plan (pages plan over_entries)) plan.feeds
 
   -- the pages of results in order
   pub site-entries : (r : ResultsView) (outs : List PageOut) → AreResults plan over_entries r → map placed_out outs ≡ pages_at plan (at_place r.pages)
@@ -167,27 +167,32 @@ module _ (plan : PlanView) (over_entries : Entries) (empty : is_empty (report pl
       ∙ bodies-over (feed_pages plan k) (item_pages plan k) item-files items
       ∙ ap (λ fs. entries (with_files fs item-files)) feeds-are
 
--- a feed more is put
-module _ (plan : PlanView) (k : known.Pages) where
+-- the first feeds as pages
+module _ (plan : PlanView) (k : known.Pages) (fs : List FeedRule) where
   abbrev pub feeds-upto : ℕ → List (Bytes × Page)
-  feeds-upto n = map (feed_page plan k) (take n plan.feeds)
+  feeds-upto n = map (feed_page plan k) (take n fs)
 
-  pub feeds-first : (n : ℕ) (m : List (Bytes × Page)) → n ≡ length plan.feeds → over (feeds-upto n) m ≡ over (feed_pages plan k) m
-  feeds-first n m all = ap (λ fs. over (map (feed_page plan k) fs) m) (take_all n plan.feeds (omega (arith, all)))
+  pub feeds-first : (m : List (Bytes × Page)) → fs ≡ plan.feeds → over (feeds-upto (length fs)) m ≡ over (feed_pages plan k) m
+  feeds-first m is = ap (λ (l : List FeedRule). over (map (feed_page plan k) l) m) (take_all (length fs) fs (omega arith) ∙ is)
 
   -- one feed more is put
-  pub feeds-turn : (i : ℕ) (feed : FeedRule) (m m' all : List (Bytes × Page)) → i < length plan.feeds → feed ≡ get_or plan.feeds i feed
+  pub feeds-turn : (i : ℕ) (feed : FeedRule) (m m' all : List (Bytes × Page)) → i < length fs → feed ≡ get_or fs i feed
       → m' ≡ put R (feed_page plan k feed).0 (feed_page plan k feed).1 m → over (feeds-upto (i + 1)) m ≡ all → over (feeds-upto i) m' ≡ all
-  feeds-turn i feed m m' all within is put so =
-      ap (over (feeds-upto i)) put ∙ sym (over-append (feeds-upto i) (feed_page plan k feed ∷ []) m)
-      ∙ ap (λ l. over l m) (sym (map-append (feed_page plan k) (take i plan.feeds) (feed ∷ [])))
-      ∙ ap (λ fs. over (map (feed_page plan k) fs) m) (sym (take_more plan.feeds i feed within ∙ ap (λ z. take i plan.feeds ++ z ∷ []) (sym is)))
+  feeds-turn i feed m m' all within is puts so =
+      ap (over (feeds-upto i)) puts ∙ sym (over-append (feeds-upto i) (feed_page plan k feed ∷ []) m)
+      ∙ ap (λ l. over l m) (sym (map-append (feed_page plan k) (take i fs) (feed ∷ [])))
+      ∙ ap (λ (l : List FeedRule). over (map (feed_page plan k) l) m) (sym (take_more fs i feed within ∙ ap (λ z. take i fs ++ z ∷ []) (sym is)))
       ∙ so
 
 -- pages that are the same in other words
 pub same-pages : (r : Result (Vec PageOut Global) NoMemory) (es fs : List (Bytes × Page)) → es ≡ fs → IfOk r (λ v. map placed_out v.items ≡ es) → IfOk r (λ v. map placed_out v.items ≡ fs)
 same-pages (Err e) es fs is h = tt
 same-pages (Ok v) es fs is h = h ∙ is
+
+-- the feeds over the items' pages
+pub both-pages : (plan : PlanView) (k : known.Pages) (items all : List (Bytes × Page)) → all ≡ over (feed_pages plan k) items → items ≡ item_pages plan k
+    → all ≡ pages_at plan k
+both-pages plan k items all over-them are = over-them ∙ ap (over (feed_pages plan k)) are
 
 -- so are they where they are made, if memory wasn't wanting
 pub site-sorted : (plan : PlanView) (r : ResultsView) (result : Result (Vec PageOut Global) NoMemory) → IfOk result (λ v. map placed_out v.items ≡ pages_at plan (at_place r.pages))

@@ -120,9 +120,15 @@ fn copied(alloc: Global, files: &[(Text, Text)]) -> Result<Vec<(Text, Text)>, No
     ensures { IfOk result (λ v. v.items ≡ files.now) }
 {
     let mut copies = Vec::with_capacity(alloc, files.len())?;
-    for (path, bytes) in files {
-        let path = Text::from_slice(alloc, path.as_slice())?;
-        copies.push((path, Text::from_slice(alloc, bytes.as_slice())?))?;
+    for file in files {
+        copies.push(copied_file(alloc, file)?)?;
     }
     Ok(copies)
+}
+
+fn copied_file(alloc: Global, file: &(Text, Text)) -> Result<(Text, Text), NoMemory>
+    ensures { IfOk result (λ f. f ≡ file.now) }
+{
+    let path = Text::from_slice(alloc, file.0.as_slice())?;
+    Ok((path, Text::from_slice(alloc, file.1.as_slice())?))
 }

@@ -8,7 +8,7 @@ use Rattle.hk_build.proofs.PageMaps.{ascends-pages}
 use Rattle.hk_build.proofs.links.link_lines.Goals as goal
 
 pub check_links-requires-clause-few : goal.check_links-requires-clause-few
-check_links-requires-clause-few c = ?
+check_links-requires-clause-few c = omega (arith, c.deref.ensures.len, c.len.ensures, c.if-len.false)
 
 pub check_links-requires-clause-sorted : goal.check_links-requires-clause-sorted
 check_links-requires-clause-sorted c =
