@@ -1,5 +1,5 @@
 // Targets that can't both be written.
-ghost use Rattle.std.specs.Prelude.{◌≡◌, option_copied};
+ghost use Rattle.std.specs.Prelude.{◌≡◌, option_map};
 ghost use Rattle.std.specs.List.{list_any, range_with_len};
 ghost use Rattle.hk_rules.specs.Plan.{lookups};
 ghost use Rattle.hk_feed.specs.FeedFaults as spec;
@@ -35,7 +35,7 @@ fn is_taken_by_feed(earlier: &[FeedRule], target: &[u8]) -> bool
 }
 
 fn clashes_with(target: &[u8], other: Option<&[u8]>) -> bool
-    ensures { result ≡ spec.clashes_with target.now (option_copied other.entry) }
+    ensures { result ≡ spec.clashes_with target.now (option_map (λ t. t.now) other.entry) }
 {
     match other {
         Some(other) => clashes(target, other),

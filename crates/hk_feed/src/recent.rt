@@ -19,10 +19,23 @@ pub(crate) struct Dated {
     pub item: ItemNo,
 }
 
-/// The members of a feed from the latest to the earliest, those of the same time from the last to the first. One sort.
-pub(crate) fn recent(alloc: Global, plan: &Plan, feed: &FeedRule) -> Result<Vec<ItemNo>, NoMemory>
-    ensures items { IfOk result (λ v. v.items ≡ spec.recent (lookups plan.now) feed.now) }
+/// The first members of a feed in recent order, as many as its limit says.
+pub(crate) fn first_recent(
+    alloc: Global,
+    plan: &Plan,
+    feed: &FeedRule,
+) -> Result<Vec<ItemNo>, NoMemory>
+    ensures items { IfOk result (λ v. v.items ≡ spec.first_recent (lookups plan.now) feed.now) }
     ensures within { IfOk result (λ v. All (λ item. item < length plan.now.items) v.items) }
+{
+    let mut items = recent(alloc, plan, feed)?;
+    items.truncate(feed.limit as usize);
+    Ok(items)
+}
+
+/// The members of a feed from the latest to the earliest, those of the same time from the last to the first. One sort.
+fn recent(alloc: Global, plan: &Plan, feed: &FeedRule) -> Result<Vec<ItemNo>, NoMemory>
+    ensures { IfOk result (λ v. v.items ≡ spec.recent (lookups plan.now) feed.now) }
 {
     let members = members(alloc, plan, feed)?;
     let mut dated = with_dates(alloc, plan, &members)?;
