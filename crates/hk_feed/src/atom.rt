@@ -31,6 +31,13 @@ pub(crate) fn write_atom(
     write_head(alloc, out, feed)?;
     write_updated(alloc, out, date.as_slice())?;
     write_entries(alloc, out, plan, feed.root.as_slice(), entries)?;
+    write_end(out)?;
+    Ok(())
+}
+
+fn write_end(out: &mut String) -> Result<(), NoMemory>
+    ensures { OnOk result (string_bytes out.new ≡ string_bytes out.old ++ spec.atom_end) }
+{
     append(out, "</feed>\n")
 }
 
@@ -48,7 +55,8 @@ fn write_head(alloc: Global, out: &mut String, feed: &FeedRule) -> Result<(), No
         "</subtitle>\n",
     )?;
     write_self(alloc, out, root, &itself)?;
-    write_author(alloc, out, feed)
+    write_author(alloc, out, feed)?;
+    Ok(())
 }
 
 /// The feed's own address, that of the site, and the feed's id.
@@ -57,8 +65,15 @@ fn write_self(alloc: Global, out: &mut String, root: &[u8], itself: &[u8]) -> Re
 {
     let site = joined(alloc, root, b"/")?;
     write_element(alloc, out, "<link href=\"", itself, "\" rel=\"self\"/>\n")?;
-    write_element(alloc, out, "<link href=\"", &site, "\"/>\n")?;
-    write_id(alloc, out, itself)
+    write_link(alloc, out, &site)?;
+    write_id(alloc, out, itself)?;
+    Ok(())
+}
+
+fn write_link(alloc: Global, out: &mut String, link: &[u8]) -> Result<(), NoMemory>
+    ensures { OnOk result (string_bytes out.new ≡ string_bytes out.old ++ spec.href_line link.now) }
+{
+    write_element(alloc, out, "<link href=\"", link, "\"/>\n")
 }
 
 fn write_author(alloc: Global, out: &mut String, feed: &FeedRule) -> Result<(), NoMemory>
@@ -134,14 +149,16 @@ fn write_entry(
     write_title(alloc, out, title_at(plan, entry.item))?;
     write_links(alloc, out, &link)?;
     write_updated(alloc, out, date.as_slice())?;
-    write_content(alloc, out, entry)
+    write_content(alloc, out, entry)?;
+    Ok(())
 }
 
 fn write_links(alloc: Global, out: &mut String, link: &[u8]) -> Result<(), NoMemory>
     ensures { OnOk result (string_bytes out.new ≡ string_bytes out.old ++ spec.atom_links link.now) }
 {
-    write_element(alloc, out, "<link href=\"", link, "\"/>\n")?;
-    write_id(alloc, out, link)
+    write_link(alloc, out, link)?;
+    write_id(alloc, out, link)?;
+    Ok(())
 }
 
 fn write_content(alloc: Global, out: &mut String, entry: &Entry) -> Result<(), NoMemory>

@@ -29,6 +29,13 @@ pub(crate) fn write_rss(
     append(out, "<rss version=\"2.0\"><channel>\n")?;
     write_head(alloc, out, feed)?;
     write_items(alloc, out, plan, feed.root.as_slice(), entries)?;
+    write_end(out)?;
+    Ok(())
+}
+
+fn write_end(out: &mut String) -> Result<(), NoMemory>
+    ensures { OnOk result (string_bytes out.new ≡ string_bytes out.old ++ spec.rss_end) }
+{
     append(out, "</channel></rss>\n")
 }
 
@@ -44,7 +51,8 @@ fn write_head(alloc: Global, out: &mut String, feed: &FeedRule) -> Result<(), No
         "<description>",
         feed.description.as_slice(),
         "</description>\n",
-    )
+    )?;
+    Ok(())
 }
 
 fn write_link(alloc: Global, out: &mut String, link: &[u8]) -> Result<(), NoMemory>
@@ -85,7 +93,8 @@ fn write_item(
     write_title(alloc, out, title_at(plan, entry.item))?;
     write_links(alloc, out, &link)?;
     write_date(alloc, out, date.as_slice())?;
-    write_body(alloc, out, entry)
+    write_body(alloc, out, entry)?;
+    Ok(())
 }
 
 fn write_links(alloc: Global, out: &mut String, link: &[u8]) -> Result<(), NoMemory>
