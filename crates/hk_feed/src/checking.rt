@@ -8,11 +8,11 @@ ghost use Rattle.hk_feed.specs.Members.{members as members_of};
 
 use crate::clashes::is_taken;
 use crate::feed_fault::FeedFault;
-use hk_rules_file::FeedRule;
 use crate::members::{date_at, members};
 use hk_base::{NoMemory, Refusal, Text, is_path};
 use hk_chain::ItemNo;
 use hk_rules::Plan;
+use hk_rules_file::FeedRule;
 use std::alloc::Global;
 
 /// Whether the feeds can be made of what a plan builds. The feeds are tested in order, each for these faults in turn:

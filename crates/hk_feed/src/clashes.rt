@@ -4,9 +4,9 @@ ghost use Rattle.std.specs.List.{list_any, range_with_len};
 ghost use Rattle.hk_rules.specs.Plan.{lookups};
 ghost use Rattle.hk_feed.specs.FeedFaults as spec;
 
-use hk_rules_file::FeedRule;
 use hk_chain::ItemNo;
 use hk_rules::Plan;
+use hk_rules_file::FeedRule;
 
 /// Whether an item or an earlier feed has this target, or one that lies above or below it. One comparison for each.
 pub(crate) fn is_taken(plan: &Plan, earlier: &[FeedRule], target: &[u8]) -> bool

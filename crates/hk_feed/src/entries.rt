@@ -5,11 +5,11 @@ ghost use Rattle.hk_chain.specs.Kept.{at_place};
 ghost use Rattle.hk_rules.specs.Plan.{lookups};
 ghost use Rattle.hk_feed.specs.Entries as spec;
 
-use hk_rules_file::FeedRule;
 use crate::recent::first_recent;
 use hk_base::NoMemory;
 use hk_chain::{ItemNo, Kind, PageRef, PairNo};
 use hk_rules::Plan;
+use hk_rules_file::FeedRule;
 use std::alloc::Global;
 
 /// An item with the page that its entry shows.

@@ -4,12 +4,12 @@ ghost use Rattle.std.specs.Option.{option_to_list};
 ghost use Rattle.hk_rules.specs.Plan.{lookups};
 ghost use Rattle.hk_feed.specs.Recent as spec;
 
-use hk_rules_file::FeedRule;
 use crate::members::{date_at, members};
 use hk_base::NoMemory;
 use hk_chain::ItemNo;
 use hk_meta::Moment;
 use hk_rules::Plan;
+use hk_rules_file::FeedRule;
 use std::alloc::Global;
 
 /// An item with its date.

@@ -3,4 +3,4 @@ use Rattle.hk_feed.proofs.atom.write_self.Goals as goal
 
 pub returns : goal.returns
 returns c =
-    written-then _ _ _ _ _ c.in_ok-write_element.ensures (written-then _ _ _ _ _ c.in_ok-write_link.ensures (c.in_ok-write_id.ensures))
+    written-then _ _ _ _ _ c.in_ok-write_element.ensures (written-then _ _ _ _ _ c.in_ok-write_site.ensures c.in_ok-write_id.ensures)
