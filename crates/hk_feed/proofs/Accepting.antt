@@ -24,14 +24,16 @@ pub none-second : {X : Type 0} (a b : Option X) → option_or a b ≡ None → b
 none-second None b e = e
 none-second (Some x) b e = cc
 
+some-is-none : {Y A : Type 0} (y : Y) → Some y ≡ None → A
+some-is-none y e = absurd (cc)
+
 -- what isn't found passes no test
 unfound : {X Y : Type 0} (f : X → Y) (p : X → Bool) (xs : List X) → option_map f (find p xs) ≡ None → AllByRecursion (λ x. p x ≡ false) xs
 unfound f p [] e = tt
-unfound f p (x ∷ xs) e = at (p x) refl e
-  where
-    at : (b : Bool) → p x ≡ b → option_map f (cond b (Some x) (find p xs)) ≡ None → (p x ≡ false) × AllByRecursion (λ y. p y ≡ false) xs
-    at true q w = cc
-    at false q w = (q, unfound f p xs w)
+unfound f p (x ∷ xs) e = elim (p x) as (λ b. p x ≡ b → option_map f (cond b (Some x) (find p xs)) ≡ None → (p x ≡ false) × AllByRecursion (λ y. p y ≡ false) xs) [
+  | true ↦ λ q w. some-is-none (f x) w
+  | false ↦ λ q w. (q, unfound f p xs w)
+] refl e
 
 some-if : {X : Type 0} (o : Option X) → is_none o ≡ false → is_some o ≡ true
 some-if None e = cc

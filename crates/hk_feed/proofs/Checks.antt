@@ -31,4 +31,4 @@ module _ (plan : Lookups) (feeds : List FeedRule) (i : ℕ) (feed : FeedRule) (l
       subst (λ o. Passes {T = Unit {0}} o (Err e)) here (refused-first (feed_fault plan (take i feeds) feed) (later_fault plan (take i feeds ++ feed ∷ []) (drop (i + 1) feeds)) e h)
 
 pub checked-end : (plan : Lookups) (feeds : List FeedRule) (i : ℕ) → length feeds ≤ i → later_fault plan (take i feeds) (drop i feeds) ≡ later_fault plan [] feeds → later_fault plan [] feeds ≡ None
-checked-end plan feeds i over was = sym was ∙ ap (later_fault plan (take i feeds)) (drop_of_length-le feeds i over)
+checked-end plan feeds i over was = sym was ∙ ap (later_fault plan (take i feeds)) (drop_of_length-le feeds over)

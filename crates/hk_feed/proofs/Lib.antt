@@ -4,3 +4,4 @@ pub mod Lists
 pub mod Sorting
 pub mod Unescaping
 pub mod Within
+pub mod Writing

@@ -19,7 +19,7 @@ given-turn h xs i x old new total lt at more was =
     ∙ (ap (λ l. old ++ l) (sym (consed (h x) (filter_map h (drop (i + 1) xs))) ∙ ap (filter_map h) (sym (rest-from xs i x lt at))) ∙ was))
 
 pub given-end : {X Y : Type 0} (h : X → Option Y) (xs : List X) (i : ℕ) (old total : List Y) → length xs ≤ i → old ++ filter_map h (drop i xs) ≡ total → old ≡ total
-given-end h xs i old total over was = sym (append-nil old) ∙ (ap (λ l. old ++ filter_map h l) (sym (drop_of_length-le xs i over)) ∙ was)
+given-end h xs i old total over was = sym (append-nil old) ∙ (ap (λ l. old ++ filter_map h l) (sym (drop_of_length-le xs over)) ∙ was)
 
 -- ---- the first that passes a test
 
@@ -32,7 +32,7 @@ found-here f p xs i x total lt at passes was =
     sym (ap (λ b. option_map f (cond b (Some x) (find p (drop (i + 1) xs)))) passes) ∙ (ap (λ l. option_map f (find p l)) (sym (rest-from xs i x lt at)) ∙ was)
 
 pub found-end : {X Y : Type 0} (f : X → Y) (p : X → Bool) (xs : List X) (i : ℕ) (total : Option Y) → length xs ≤ i → option_map f (find p (drop i xs)) ≡ total → None ≡ total
-found-end f p xs i total over was = ap (λ l. option_map f (find p l)) (sym (drop_of_length-le xs i over)) ∙ was
+found-end f p xs i total over was = ap (λ l. option_map f (find p l)) (sym (drop_of_length-le xs over)) ∙ was
 
 -- ---- the numbers below another
 

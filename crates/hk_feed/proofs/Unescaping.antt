@@ -40,6 +40,7 @@ plain-escape c a b d e f = rw (ne_eqb c 38 a, ne_eqb c 60 b, ne_eqb c 62 d, ne_e
 
 -- an escaped character is read again as it was
 one-char : (c : ℕ) (ys : Bytes) → unescaped_after 0 (escaped c ++ ys) ≡ encode_utf8 c ++ unescaped_after 0 ys
+unfolding lib.Utf8.encode
 one-char c ys = elim (cases_eq c 38) [
   | inl same ↦ rw same refl
   | inr a ↦ elim (cases_eq c 60) [

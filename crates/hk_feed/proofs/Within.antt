@@ -1,9 +1,9 @@
 -- The items of feeds are those of the plan.
-use Rattle.std.proofs.Common.{◌≡◌, refl, ℕ, zero, suc, ◌+◌, ◌<◌, ◌≤◌, Bool, true, false, cond, List, [], ◌∷◌, map, take, Option, Some, None, All, arith}
+use Rattle.std.proofs.Common.{◌≡◌, refl, ℕ, zero, suc, ◌+◌, ◌<◌, ◌≤◌, Bool, true, false, cond, List, [], ◌∷◌, map, length, Option, Some, None, All, arith}
 use Rattle.std.specs.Prelude.{reverse}
 use Rattle.std.specs.List.{AllByRecursion, range_with_len, cons_option}
 use Rattle.std.specs.Ordering.{is_lt}
-use Rattle.std.proofs.lemmas.List.Elements.{All-from_recursion, recursion_from_All, All-filter, All-map, All-take}
+use Rattle.std.proofs.lemmas.List.Elements.{All-from_recursion, recursion_from_All, All-filter, All-map}
 use Rattle.std.proofs.lemmas.List.Sorted.{All-permutation, IsPermutation-reverse}
 use Rattle.hk_base.specs.Bytes.{Bytes}
 use Rattle.hk_chain.proofs.Spans.{range-all}
@@ -12,8 +12,9 @@ use Rattle.hk_chain.specs.declared.page.Kind.TheVariants as kinds
 use Rattle.hk_chain.specs.declared.page.Page.{Page}
 use Rattle.hk_meta.specs.declared.date.Moment.{Moment}
 use Rattle.hk_fix.specs.Pages.{Pages}
-use Rattle.hk_rules.specs.Plan.{Lookups}
-use Rattle.hk_feed.specs.Entries.{Entry, entry_of_kind, entry_by, page_by, entries_of, entries}
+use Rattle.hk_rules.specs.Plan.{Lookups, lookups}
+use Rattle.hk_rules.specs.PlanView.{PlanView}
+use Rattle.hk_feed.specs.Entries.{Entry, entry_of_kind, entry_by, page_by, entries_of}
 use Rattle.hk_feed.specs.Members.{is_member, members, date_at}
 use Rattle.hk_feed.specs.Recent.{Dated, dated_by, dated, moment_cmp, put_dated, by_date, item_in, latest_first, recent}
 use Rattle.hk_rules_file.specs.declared.tables.FeedRule.{FeedRule}
@@ -67,10 +68,10 @@ module _ (P : ℕ → Type 0) where
   entries-all plan pages name [] h = h
   entries-all plan pages name (item ∷ items) h = entry-one item (page_by pages (plan.pair item name)) (entries_of plan pages name items) h.0 (entries-all plan pages name items h.1)
 
-pub recent-within : (plan : Lookups) (feed : FeedRule) → All (λ item. item < plan.count) (recent plan feed)
-recent-within plan feed = latest-all (λ item. item < plan.count) plan (members plan feed) (members-within plan feed)
+  pub entries-kept : (plan : Lookups) (pages : Pages) (name : Bytes) (items : List ℕ) → All P items → All (λ (e : Entry). P e.item) (entries_of plan pages name items)
+  entries-kept plan pages name items h =
+      All-from_recursion (λ (e : Entry). P e.item) (entries_of plan pages name items) (entries-all plan pages name items (recursion_from_All P items h))
 
-pub entries-within : (plan : Lookups) (pages : Pages) (feed : FeedRule) → All (λ (e : Entry). e.item < plan.count) (entries plan pages feed)
-entries-within plan pages feed =
-    All-from_recursion (λ (e : Entry). e.item < plan.count) (entries plan pages feed) (entries-all (λ item. item < plan.count) plan pages feed.snapshot (take feed.limit (recent plan feed))
-    (recursion_from_All (λ item. item < plan.count) (take feed.limit (recent plan feed)) (All-take (λ item. item < plan.count) feed.limit (recent plan feed) (recent-within plan feed))))
+pub recent-within : (plan : PlanView) (feed : FeedRule) → All (λ item. item < length plan.items) (recent (lookups plan) feed)
+unfolding lookups
+recent-within plan feed = latest-all (λ item. item < length plan.items) (lookups plan) (members (lookups plan) feed) (members-within (lookups plan) feed)

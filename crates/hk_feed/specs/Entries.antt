@@ -1,5 +1,5 @@
 -- The entries of a feed.
-use Rattle.std.specs.Prelude.{ℕ, List, take, Option, Some, None}
+use Rattle.std.specs.Prelude.{ℕ, List, Option, Some, None}
 use Rattle.std.specs.List.{filter_map}
 use Rattle.hk_base.specs.Bytes.{Bytes}
 use Rattle.hk_chain.specs.declared.page.Kind.{Kind}
@@ -7,7 +7,7 @@ use Rattle.hk_chain.specs.declared.page.Kind.TheVariants.{Text, Template, File}
 use Rattle.hk_chain.specs.declared.page.Page.{Page}
 use Rattle.hk_fix.specs.Pages.{Pages}
 use Rattle.hk_rules.specs.Plan.{Lookups}
-use Rattle.hk_feed.specs.Recent.{recent}
+use Rattle.hk_feed.specs.Recent.{first_recent}
 use Rattle.hk_rules_file.specs.declared.tables.FeedRule.{FeedRule}
 -- an item with the page that its entry shows
 pub use Rattle.hk_feed.specs.declared.entries.Entry.{Entry}
@@ -36,4 +36,4 @@ entries_of plan pages name items = filter_map (entry_of plan pages name) items
 
 -- the entries of a feed: of the first members in recent order, as many as the limit says, those whose page is text
 abbrev pub entries : Lookups → Pages → FeedRule → List Entry
-entries plan pages feed = entries_of plan pages feed.snapshot (take feed.limit (recent plan feed))
+entries plan pages feed = entries_of plan pages feed.snapshot (first_recent plan feed)

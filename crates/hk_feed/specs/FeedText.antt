@@ -65,35 +65,50 @@ updated plan (first ∷ others) = date_text plan atom_dates first.item
 abbrev pub updated_line : Bytes → Bytes
 updated_line date = element (codes "<updated>") date (codes "</updated>\n")
 
+abbrev pub href_line : Bytes → Bytes
+href_line link = element (codes "<link href=\"") link (codes "\"/>\n")
+
 abbrev pub id_line : Bytes → Bytes
 id_line link = element (codes "<id>") link (codes "</id>\n")
 
 abbrev pub self_lines : Bytes → Bytes → Bytes
 self_lines root itself =
     element (codes "<link href=\"") itself (codes "\" rel=\"self\"/>\n")
-    ++ (element (codes "<link href=\"") (slash_after root) (codes "\"/>\n") ++ id_line itself)
+    ++ (href_line (slash_after root) ++ id_line itself)
+
+abbrev pub subtitle_line : Bytes → Bytes
+subtitle_line text = element (codes "<subtitle>") text (codes "</subtitle>\n")
 
 abbrev pub atom_head : FeedRule → Bytes
 atom_head feed =
     title_line feed.title
-    ++ (element (codes "<subtitle>") feed.description (codes "</subtitle>\n") ++ (self_lines feed.root (link_to feed.root feed.target) ++ author_line feed))
+    ++ (subtitle_line feed.description ++ (self_lines feed.root (link_to feed.root feed.target) ++ author_line feed))
 
 abbrev pub atom_links : Bytes → Bytes
-atom_links link = element (codes "<link href=\"") link (codes "\"/>\n") ++ id_line link
+atom_links link = href_line link ++ id_line link
 
 -- the body of the page, and the end of the entry
 abbrev pub content_lines : Entry → Bytes
 content_lines entry = element (codes "<content type=\"html\">") entry.page.body (codes "</content>\n</entry>\n")
 
+abbrev pub entry_start : Bytes
+entry_start = codes "<entry>\n"
+
 abbrev pub atom_entry : Lookups → Bytes → Entry → Bytes
 atom_entry plan root entry =
-    codes "<entry>\n" ++ (title_line (title_at plan entry.item) ++ (atom_links (link_of plan root entry.item)
+    entry_start ++ (title_line (title_at plan entry.item) ++ (atom_links (link_of plan root entry.item)
     ++ (updated_line (date_text plan atom_dates entry.item) ++ content_lines entry)))
+
+abbrev pub atom_start : Bytes
+atom_start = codes "<feed xmlns=\"http://www.w3.org/2005/Atom\">\n"
+
+abbrev pub atom_end : Bytes
+atom_end = codes "</feed>\n"
 
 abbrev pub atom_text : Lookups → FeedRule → List Entry → Bytes
 atom_text plan feed own =
-    codes "<feed xmlns=\"http://www.w3.org/2005/Atom\">\n" ++ (atom_head feed ++ (updated_line (updated plan own)
-    ++ (flat_map (atom_entry plan feed.root) own ++ codes "</feed>\n")))
+    atom_start ++ (atom_head feed ++ (updated_line (updated plan own)
+    ++ (flat_map (atom_entry plan feed.root) own ++ atom_end)))
 
 -- ---- RSS
 
@@ -103,10 +118,13 @@ rss_dates = codes "%a, %d %b %Y %H:%M:%S"
 abbrev pub link_line : Bytes → Bytes
 link_line link = element (codes "<link>") link (codes "</link>\n")
 
+abbrev pub description_line : Bytes → Bytes
+description_line text = element (codes "<description>") text (codes "</description>\n")
+
 abbrev pub rss_head : FeedRule → Bytes
 rss_head feed =
     title_line feed.title
-    ++ (link_line (slash_after feed.root) ++ element (codes "<description>") feed.description (codes "</description>\n"))
+    ++ (link_line (slash_after feed.root) ++ description_line feed.description)
 
 abbrev pub rss_links : Bytes → Bytes
 rss_links link = link_line link ++ element (codes "<guid>") link (codes "</guid>\n")
@@ -118,22 +136,35 @@ date_line date = element (codes "<pubDate>") date (codes " GMT</pubDate>\n")
 abbrev pub body_lines : Entry → Bytes
 body_lines entry = element (codes "<description>") entry.page.body (codes "</description>\n</item>\n")
 
+abbrev pub item_start : Bytes
+item_start = codes "<item>\n"
+
 abbrev pub rss_item : Lookups → Bytes → Entry → Bytes
 rss_item plan root entry =
-    codes "<item>\n" ++ (title_line (title_at plan entry.item) ++ (rss_links (link_of plan root entry.item)
+    item_start ++ (title_line (title_at plan entry.item) ++ (rss_links (link_of plan root entry.item)
     ++ (date_line (date_text plan rss_dates entry.item) ++ body_lines entry)))
+
+abbrev pub rss_start : Bytes
+rss_start = codes "<rss version=\"2.0\"><channel>\n"
+
+abbrev pub rss_end : Bytes
+rss_end = codes "</channel></rss>\n"
 
 abbrev pub rss_text : Lookups → FeedRule → List Entry → Bytes
 rss_text plan feed own =
-    codes "<rss version=\"2.0\"><channel>\n" ++ (rss_head feed ++ (flat_map (rss_item plan feed.root) own ++ codes "</channel></rss>\n"))
+    rss_start ++ (rss_head feed ++ (flat_map (rss_item plan feed.root) own ++ rss_end))
 
 abbrev pub text_of_kind : Lookups → FeedRule → List Entry → FeedKind → Bytes
 text_of_kind plan feed own Atom = atom_text plan feed own
 text_of_kind plan feed own Rss = rss_text plan feed own
 
+-- the text of a feed with these entries
+unfoldable pub text_of : Lookups → FeedRule → List Entry → Bytes
+text_of plan feed own = first_line ++ text_of_kind plan feed own feed.kind
+
 -- the text of a feed, by the pages that are known
 unfoldable pub feed_text : Lookups → Pages → FeedRule → Bytes
-feed_text plan pages feed = first_line ++ text_of_kind plan feed (entries plan pages feed) feed.kind
+feed_text plan pages feed = text_of plan feed (entries plan pages feed)
 
 -- the target of a feed with its text
 abbrev pub feed_file : Lookups → Pages → FeedRule → Bytes × Bytes

@@ -1,5 +1,5 @@
 -- The members of a feed, the latest first.
-use Rattle.std.specs.Prelude.{ℕ, cond, List, [], ◌∷◌, map, reverse, Option, Some, None}
+use Rattle.std.specs.Prelude.{ℕ, cond, List, [], ◌∷◌, map, reverse, take, Option, Some, None}
 use Rattle.std.specs.List.{filter_map}
 use Rattle.std.specs.Ordering.{int_cmp, nat_cmp, ordering_then, is_lt}
 use Rattle.std.specs.declared.cmp.Ordering.{Ordering}
@@ -47,3 +47,7 @@ latest_first ds = reverse (by_date ds)
 -- the members of a feed in recent order
 abbrev pub recent : Lookups → FeedRule → List ℕ
 recent plan feed = map item_in (latest_first (dated plan (members plan feed)))
+
+-- the first of them, as many as the feed's limit says
+abbrev pub first_recent : Lookups → FeedRule → List ℕ
+first_recent plan feed = take feed.limit (recent plan feed)

@@ -8,11 +8,11 @@ ghost use Rattle.hk_feed.specs.Members.{members as members_of};
 
 use crate::clashes::is_taken;
 use crate::feed_fault::FeedFault;
-use hk_rules_file::FeedRule;
 use crate::members::{date_at, members};
 use hk_base::{NoMemory, Refusal, Text, is_path};
 use hk_chain::ItemNo;
 use hk_rules::Plan;
+use hk_rules_file::FeedRule;
 use std::alloc::Global;
 
 /// Whether the feeds can be made of what a plan builds. The feeds are tested in order, each for these faults in turn:
@@ -87,11 +87,18 @@ fn check_snapshots(
     ensures { Passes (spec.snapshot_fault (lookups plan.now) name.now members.now) result }
 {
     for item in members {
-        if plan.pair(*item, name).is_none() {
+        if lacks_snapshot(plan, name, *item) {
             return Err(Refusal::Fault(no_snapshot(alloc, plan, name, *item)?));
         }
     }
     Ok(())
+}
+
+fn lacks_snapshot(plan: &Plan, name: &[u8], item: ItemNo) -> bool
+    requires { item < length plan.now.items }
+    ensures { result ≡ spec.lacks_snapshot (lookups plan.now) name.now item }
+{
+    plan.pair(item, name).is_none()
 }
 
 fn no_snapshot(alloc: Global, plan: &Plan, name: &[u8], item: ItemNo) -> Result<FeedFault, NoMemory>
@@ -109,11 +116,18 @@ fn check_dates(alloc: Global, plan: &Plan, members: &[ItemNo]) -> Result<(), Ref
     ensures { Passes (spec.date_fault (lookups plan.now) members.now) result }
 {
     for item in members {
-        if date_at(plan, *item).is_none() {
+        if lacks_date(plan, *item) {
             return Err(Refusal::Fault(no_date(alloc, plan, *item)?));
         }
     }
     Ok(())
+}
+
+fn lacks_date(plan: &Plan, item: ItemNo) -> bool
+    requires { item < length plan.now.items }
+    ensures { result ≡ spec.lacks_date (lookups plan.now) item }
+{
+    date_at(plan, item).is_none()
 }
 
 fn no_date(alloc: Global, plan: &Plan, item: ItemNo) -> Result<FeedFault, NoMemory>

@@ -1,12 +1,12 @@
 // Targets that can't both be written.
-ghost use Rattle.std.specs.Prelude.{◌≡◌, option_copied};
+ghost use Rattle.std.specs.Prelude.{◌≡◌, option_map};
 ghost use Rattle.std.specs.List.{list_any, range_with_len};
 ghost use Rattle.hk_rules.specs.Plan.{lookups};
 ghost use Rattle.hk_feed.specs.FeedFaults as spec;
 
-use hk_rules_file::FeedRule;
 use hk_chain::ItemNo;
 use hk_rules::Plan;
+use hk_rules_file::FeedRule;
 
 /// Whether an item or an earlier feed has this target, or one that lies above or below it. One comparison for each.
 pub(crate) fn is_taken(plan: &Plan, earlier: &[FeedRule], target: &[u8]) -> bool
@@ -35,7 +35,7 @@ fn is_taken_by_feed(earlier: &[FeedRule], target: &[u8]) -> bool
 }
 
 fn clashes_with(target: &[u8], other: Option<&[u8]>) -> bool
-    ensures { result ≡ spec.clashes_with target.now (option_copied other.entry) }
+    ensures { result ≡ spec.clashes_with target.now (option_map (λ t. t.now) other.entry) }
 {
     match other {
         Some(other) => clashes(target, other),

@@ -5,11 +5,11 @@ ghost use Rattle.hk_chain.specs.Kept.{at_place};
 ghost use Rattle.hk_rules.specs.Plan.{lookups};
 ghost use Rattle.hk_feed.specs.Entries as spec;
 
-use hk_rules_file::FeedRule;
-use crate::recent::recent;
+use crate::recent::first_recent;
 use hk_base::NoMemory;
-use hk_chain::{ItemNo, Kind, PageRef};
+use hk_chain::{ItemNo, Kind, PageRef, PairNo};
 use hk_rules::Plan;
+use hk_rules_file::FeedRule;
 use std::alloc::Global;
 
 /// An item with the page that its entry shows.
@@ -29,8 +29,7 @@ pub(crate) fn entries(
     ensures entries { IfOk result (λ v. v.items ≡ spec.entries (lookups plan.now) (at_place pages.now) feed.now) }
     ensures within { IfOk result (λ v. All (λ entry. entry.item < length plan.now.items) v.items) }
 {
-    let mut items = recent(alloc, plan, feed)?;
-    items.truncate(feed.limit as usize);
+    let items = first_recent(alloc, plan, feed)?;
     entries_of(alloc, plan, pages, feed.snapshot.as_slice(), &items)
 }
 
@@ -42,7 +41,8 @@ fn entries_of(
     items: &[ItemNo],
 ) -> Result<Vec<Entry>, NoMemory>
     requires { All (λ item. item < length plan.now.items) items.now }
-    ensures { IfOk result (λ v. v.items ≡ spec.entries_of (lookups plan.now) (at_place pages.now) name.now items.now) }
+    ensures entries { IfOk result (λ v. v.items ≡ spec.entries_of (lookups plan.now) (at_place pages.now) name.now items.now) }
+    ensures within { IfOk result (λ v. All (λ entry. entry.item < length plan.now.items) v.items) }
 {
     let mut entries = Vec::with_capacity(alloc, items.len())?;
     for item in items {
@@ -74,7 +74,15 @@ fn page_of<'a>(
     requires { item < length plan.now.items }
     ensures { option_map (λ p. p.now) result ≡ spec.page_by (at_place pages.now) ((lookups plan.now).pair item name.now) }
 {
-    let pair = plan.pair(item, name)?;
+    match plan.pair(item, name) {
+        Some(pair) => page_at(pages, pair),
+        None => None,
+    }
+}
+
+fn page_at(pages: &[Option<PageRef>], pair: PairNo) -> Option<&PageRef>
+    ensures { option_map (λ p. p.now) result ≡ at_place pages.now pair }
+{
     match pages.get(pair.0 as usize) {
         Some(Some(page)) => Some(page),
         _ => None,

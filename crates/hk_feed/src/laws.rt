@@ -16,5 +16,6 @@ pub fn escaping_is_undone()
 /// Of feeds without a fault each has a target that is a path, at which no item and no earlier feed is in the way, and each
 /// of its members has a page under the snapshot name and a date: the order of its members leaves none of them out.
 pub fn accepted_feeds_are_whole()
-    ensures { (plan : Lookups) (earlier later : List FeedRule) (feed : FeedRule) → feeds_fault plan (earlier ++ feed ∷ later) ≡ None → IsAccepted plan earlier feed }
+    ensures { (plan : Lookups) (earlier later : List FeedRule) (feed : FeedRule) → feeds_fault plan (earlier ++ feed ∷ later) ≡ None
+        → IsAccepted plan earlier feed }
 {}

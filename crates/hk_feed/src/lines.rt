@@ -4,14 +4,17 @@ ghost use Rattle.std.specs.String.{string_bytes};
 ghost use Rattle.hk_meta.specs.DatePattern.{pattern_ok};
 ghost use Rattle.hk_rules.specs.Plan.{lookups};
 ghost use Rattle.hk_feed.specs.FeedText as spec;
+ghost use Rattle.hk_feed.specs.Titles as titles;
 
 use crate::members::date_at;
+use crate::title::title_at;
 use crate::xml::append_xml;
 use hk_base::{NoMemory, Text};
 use hk_chain::ItemNo;
 use hk_html::url_of;
 use hk_meta::format_date;
 use hk_rules::Plan;
+use hk_rules_file::FeedRule;
 use std::alloc::Global;
 
 pub(crate) fn append(out: &mut String, text: &str) -> Result<(), NoMemory>
@@ -82,8 +85,32 @@ pub(crate) fn date_text(
     }
 }
 
-pub(crate) fn write_title(alloc: Global, out: &mut String, title: &[u8]) -> Result<(), NoMemory>
+fn write_title(alloc: Global, out: &mut String, title: &[u8]) -> Result<(), NoMemory>
     ensures { OnOk result (string_bytes out.new ≡ string_bytes out.old ++ spec.title_line title.now) }
 {
     write_element(alloc, out, "<title>", title, "</title>\n")
+}
+
+/// The line of a feed's own title.
+pub(crate) fn write_feed_title(
+    alloc: Global,
+    out: &mut String,
+    feed: &FeedRule,
+) -> Result<(), NoMemory>
+    ensures { OnOk result (string_bytes out.new ≡ string_bytes out.old ++ spec.title_line feed.now.title) }
+{
+    write_title(alloc, out, feed.title.as_slice())
+}
+
+/// The line of an item's title.
+pub(crate) fn write_item_title(
+    alloc: Global,
+    out: &mut String,
+    plan: &Plan,
+    item: ItemNo,
+) -> Result<(), NoMemory>
+    requires { item < length plan.now.items }
+    ensures { OnOk result (string_bytes out.new ≡ string_bytes out.old ++ spec.title_line (titles.title_at (lookups plan.now) item)) }
+{
+    write_title(alloc, out, title_at(plan, item))
 }

@@ -4,11 +4,11 @@ ghost use Rattle.hk_meta.specs.Date.{IsMoment};
 ghost use Rattle.hk_rules.specs.Plan.{lookups};
 ghost use Rattle.hk_feed.specs.Members as spec;
 
-use hk_rules_file::FeedRule;
 use hk_base::NoMemory;
 use hk_chain::ItemNo;
 use hk_meta::{Moment, date_of};
 use hk_rules::Plan;
+use hk_rules_file::FeedRule;
 use std::alloc::Global;
 
 /// The items that the feed's pattern matches and that have a target, in identifier order. Each item is tested once.

@@ -4,12 +4,12 @@ ghost use Rattle.std.specs.Option.{option_to_list};
 ghost use Rattle.hk_rules.specs.Plan.{lookups};
 ghost use Rattle.hk_feed.specs.Recent as spec;
 
-use hk_rules_file::FeedRule;
 use crate::members::{date_at, members};
 use hk_base::NoMemory;
 use hk_chain::ItemNo;
 use hk_meta::Moment;
 use hk_rules::Plan;
+use hk_rules_file::FeedRule;
 use std::alloc::Global;
 
 /// An item with its date.
@@ -19,10 +19,23 @@ pub(crate) struct Dated {
     pub item: ItemNo,
 }
 
-/// The members of a feed from the latest to the earliest, those of the same time from the last to the first. One sort.
-pub(crate) fn recent(alloc: Global, plan: &Plan, feed: &FeedRule) -> Result<Vec<ItemNo>, NoMemory>
-    ensures items { IfOk result (λ v. v.items ≡ spec.recent (lookups plan.now) feed.now) }
+/// The first members of a feed in recent order, as many as its limit says.
+pub(crate) fn first_recent(
+    alloc: Global,
+    plan: &Plan,
+    feed: &FeedRule,
+) -> Result<Vec<ItemNo>, NoMemory>
+    ensures items { IfOk result (λ v. v.items ≡ spec.first_recent (lookups plan.now) feed.now) }
     ensures within { IfOk result (λ v. All (λ item. item < length plan.now.items) v.items) }
+{
+    let mut items = recent(alloc, plan, feed)?;
+    items.truncate(feed.limit as usize);
+    Ok(items)
+}
+
+/// The members of a feed from the latest to the earliest, those of the same time from the last to the first. One sort.
+fn recent(alloc: Global, plan: &Plan, feed: &FeedRule) -> Result<Vec<ItemNo>, NoMemory>
+    ensures { IfOk result (λ v. v.items ≡ spec.recent (lookups plan.now) feed.now) }
 {
     let members = members(alloc, plan, feed)?;
     let mut dated = with_dates(alloc, plan, &members)?;

@@ -6,11 +6,13 @@ ghost use Rattle.hk_rules.specs.Plan.{lookups};
 ghost use Rattle.hk_feed.specs.FeedText as spec;
 
 use crate::entries::Entry;
-use hk_rules_file::FeedRule;
-use crate::lines::{append, date_text, joined, link_of, write_element, write_title};
-use crate::title::title_at;
+use crate::lines::{
+    append, date_text, joined, link_of, write_element, write_feed_title, write_item_title,
+};
 use hk_base::NoMemory;
+use hk_chain::ItemNo;
 use hk_rules::Plan;
+use hk_rules_file::FeedRule;
 use std::alloc::Global;
 
 const DATES: &[u8] = b"%a, %d %b %Y %H:%M:%S";
@@ -26,25 +28,46 @@ pub(crate) fn write_rss(
     requires { All (λ entry. entry.item < length plan.now.items) entries.now }
     ensures { OnOk result (string_bytes out.new ≡ string_bytes out.old ++ spec.rss_text (lookups plan.now) feed.now entries.now) }
 {
-    append(out, "<rss version=\"2.0\"><channel>\n")?;
+    begin_channel(out)?;
     write_head(alloc, out, feed)?;
-    write_items(alloc, out, plan, feed.root.as_slice(), entries)?;
+    write_items(alloc, out, plan, feed, entries)?;
+    end_channel(out)?;
+    Ok(())
+}
+
+fn begin_channel(out: &mut String) -> Result<(), NoMemory>
+    ensures { OnOk result (string_bytes out.new ≡ string_bytes out.old ++ spec.rss_start) }
+{
+    append(out, "<rss version=\"2.0\"><channel>\n")
+}
+
+fn end_channel(out: &mut String) -> Result<(), NoMemory>
+    ensures { OnOk result (string_bytes out.new ≡ string_bytes out.old ++ spec.rss_end) }
+{
     append(out, "</channel></rss>\n")
 }
 
 fn write_head(alloc: Global, out: &mut String, feed: &FeedRule) -> Result<(), NoMemory>
     ensures { OnOk result (string_bytes out.new ≡ string_bytes out.old ++ spec.rss_head feed.now) }
 {
+    write_feed_title(alloc, out, feed)?;
+    write_site(alloc, out, feed)?;
+    write_description(alloc, out, feed)?;
+    Ok(())
+}
+
+fn write_site(alloc: Global, out: &mut String, feed: &FeedRule) -> Result<(), NoMemory>
+    ensures { OnOk result (string_bytes out.new ≡ string_bytes out.old ++ spec.link_line (spec.slash_after feed.now.root)) }
+{
     let site = joined(alloc, feed.root.as_slice(), b"/")?;
-    write_title(alloc, out, feed.title.as_slice())?;
-    write_link(alloc, out, &site)?;
-    write_element(
-        alloc,
-        out,
-        "<description>",
-        feed.description.as_slice(),
-        "</description>\n",
-    )
+    write_link(alloc, out, &site)
+}
+
+fn write_description(alloc: Global, out: &mut String, feed: &FeedRule) -> Result<(), NoMemory>
+    ensures { OnOk result (string_bytes out.new ≡ string_bytes out.old ++ spec.description_line feed.now.description) }
+{
+    let text = feed.description.as_slice();
+    write_element(alloc, out, "<description>", text, "</description>\n")
 }
 
 fn write_link(alloc: Global, out: &mut String, link: &[u8]) -> Result<(), NoMemory>
@@ -57,14 +80,14 @@ fn write_items(
     alloc: Global,
     out: &mut String,
     plan: &Plan,
-    root: &[u8],
+    feed: &FeedRule,
     entries: &[Entry],
 ) -> Result<(), NoMemory>
     requires { All (λ entry. entry.item < length plan.now.items) entries.now }
-    ensures { OnOk result (string_bytes out.new ≡ string_bytes out.old ++ flat_map (spec.rss_item (lookups plan.now) root.now) entries.now) }
+    ensures { OnOk result (string_bytes out.new ≡ string_bytes out.old ++ flat_map (spec.rss_item (lookups plan.now) feed.now.root) entries.now) }
 {
     for entry in entries {
-        write_item(alloc, out, plan, root, entry)?;
+        write_item(alloc, out, plan, feed, entry)?;
     }
     Ok(())
 }
@@ -73,19 +96,38 @@ fn write_item(
     alloc: Global,
     out: &mut String,
     plan: &Plan,
-    root: &[u8],
+    feed: &FeedRule,
     entry: &Entry,
 ) -> Result<(), NoMemory>
     requires { entry.now.item < length plan.now.items }
-    ensures { OnOk result (string_bytes out.new ≡ string_bytes out.old ++ spec.rss_item (lookups plan.now) root.now entry.now) }
+    ensures { OnOk result (string_bytes out.new ≡ string_bytes out.old ++ spec.rss_item (lookups plan.now) feed.now.root entry.now) }
 {
-    let link = link_of(alloc, plan, root, entry.item)?;
-    let date = date_text(alloc, plan, DATES, entry.item)?;
-    append(out, "<item>\n")?;
-    write_title(alloc, out, title_at(plan, entry.item))?;
-    write_links(alloc, out, &link)?;
-    write_date(alloc, out, date.as_slice())?;
-    write_body(alloc, out, entry)
+    begin_item(out)?;
+    write_item_title(alloc, out, plan, entry.item)?;
+    write_item_links(alloc, out, plan, feed, entry.item)?;
+    write_item_date(alloc, out, plan, entry.item)?;
+    write_body(alloc, out, entry)?;
+    Ok(())
+}
+
+fn begin_item(out: &mut String) -> Result<(), NoMemory>
+    ensures { OnOk result (string_bytes out.new ≡ string_bytes out.old ++ spec.item_start) }
+{
+    append(out, "<item>\n")
+}
+
+fn write_item_links(
+    alloc: Global,
+    out: &mut String,
+    plan: &Plan,
+    feed: &FeedRule,
+    item: ItemNo,
+) -> Result<(), NoMemory>
+    requires { item < length plan.now.items }
+    ensures { OnOk result (string_bytes out.new ≡ string_bytes out.old ++ spec.rss_links (spec.link_of (lookups plan.now) feed.now.root item)) }
+{
+    let link = link_of(alloc, plan, feed.root.as_slice(), item)?;
+    write_links(alloc, out, &link)
 }
 
 fn write_links(alloc: Global, out: &mut String, link: &[u8]) -> Result<(), NoMemory>
@@ -93,6 +135,19 @@ fn write_links(alloc: Global, out: &mut String, link: &[u8]) -> Result<(), NoMem
 {
     write_link(alloc, out, link)?;
     write_element(alloc, out, "<guid>", link, "</guid>\n")
+}
+
+fn write_item_date(
+    alloc: Global,
+    out: &mut String,
+    plan: &Plan,
+    item: ItemNo,
+) -> Result<(), NoMemory>
+    requires { item < length plan.now.items }
+    ensures { OnOk result (string_bytes out.new ≡ string_bytes out.old ++ spec.date_line (spec.date_text (lookups plan.now) spec.rss_dates item)) }
+{
+    let date = date_text(alloc, plan, DATES, item)?;
+    write_date(alloc, out, date.as_slice())
 }
 
 fn write_date(alloc: Global, out: &mut String, date: &[u8]) -> Result<(), NoMemory>

@@ -7,12 +7,12 @@ ghost use Rattle.hk_feed.specs.FeedText as spec;
 
 use crate::atom::write_atom;
 use crate::entries::{Entry, entries};
-use hk_rules_file::{FeedKind, FeedRule};
 use crate::lines::append;
 use crate::rss::write_rss;
 use hk_base::{NoMemory, Text};
 use hk_fix::Results;
 use hk_rules::Plan;
+use hk_rules_file::{FeedKind, FeedRule};
 use std::alloc::Global;
 
 /// The text of a feed, of the pages that a run gave. Its entries are of the first members in recent order, as many as the
@@ -22,6 +22,7 @@ use std::alloc::Global;
 /// An entry has the item's title, the root and the URL of its target as link, its date, and the body of its page. All
 /// values are written as text of XML. `NoMemory` only for want of memory. Linear in the bytes of the feed, after one test of
 /// each item and a sort of the members.
+#[tactic(auto, unfolding(crate::specs::FeedText::feed_text))]
 pub fn feed_text(
     alloc: Global,
     plan: &Plan,
@@ -32,8 +33,7 @@ pub fn feed_text(
 {
     let entries = entries(alloc, plan, &results.pages, feed)?;
     let mut out = String::new(alloc);
-    append(&mut out, "<?xml version=\"1.0\" encoding=\"utf-8\"?>\n")?;
-    write_kind(alloc, &mut out, plan, feed, &entries)?;
+    write_feed(alloc, &mut out, plan, feed, &entries)?;
     Ok(Text::from_vec(out.into_bytes()))
 }
 
@@ -49,7 +49,8 @@ pub fn feed_files(
 {
     let mut files = Vec::with_capacity(alloc, feeds.len())?;
     for feed in feeds {
-        files.push(feed_file(alloc, plan, results, feed)?)?;
+        let file = feed_file(alloc, plan, results, feed)?;
+        files.push(file)?;
     }
     Ok(files)
 }
@@ -65,6 +66,27 @@ fn feed_file(
     let target = Text::from_slice(alloc, feed.target.as_slice())?;
     let text = feed_text(alloc, plan, results, feed)?;
     Ok((target, text))
+}
+
+fn write_feed(
+    alloc: Global,
+    out: &mut String,
+    plan: &Plan,
+    feed: &FeedRule,
+    entries: &[Entry],
+) -> Result<(), NoMemory>
+    requires { All (λ entry. entry.item < length plan.now.items) entries.now }
+    ensures { OnOk result (string_bytes out.new ≡ string_bytes out.old ++ spec.text_of (lookups plan.now) feed.now entries.now) }
+{
+    begin_document(out)?;
+    write_kind(alloc, out, plan, feed, entries)?;
+    Ok(())
+}
+
+fn begin_document(out: &mut String) -> Result<(), NoMemory>
+    ensures { OnOk result (string_bytes out.new ≡ string_bytes out.old ++ spec.first_line) }
+{
+    append(out, "<?xml version=\"1.0\" encoding=\"utf-8\"?>\n")
 }
 
 fn write_kind(

@@ -13,7 +13,8 @@ pub(crate) fn append_xml(alloc: Global, out: &mut String, bytes: &[u8]) -> Resul
     ensures { OnOk result (string_bytes out.new ≡ string_bytes out.old ++ spec.xml bytes.now) }
 {
     let text = String::from_utf8_lossy(alloc, bytes)?;
-    append_kept(out, text.as_str())
+    append_kept(out, text.as_str())?;
+    Ok(())
 }
 
 /// Appends the characters of a text that stay, escaped.

@@ -2,9 +2,9 @@
 use crate::case::Saved;
 use hk_base::{Identifier, Refusal, Shared, Text};
 use hk_chain::{Kind, Page, PageRef};
-use hk_feed::{FeedFault, FeedRule, check_feeds, feed_text};
+use hk_feed::{FeedFault, check_feeds, feed_text};
 use hk_fix::Results;
-use hk_rules::{Plan, make_plan, read_rules};
+use hk_rules::{FeedRule, Plan, make_plan, read_rules};
 use std::alloc::Global;
 use std::test::Fail;
 

@@ -3,7 +3,7 @@ use crate::answers::answer;
 use crate::bytes::text_of;
 use crate::rules::feed_of;
 use hk_base::Text;
-use hk_feed::FeedRule;
+use hk_rules::FeedRule;
 use std::alloc::Global;
 use std::mem;
 use std::test::Fail;

@@ -1,8 +1,8 @@
 // A feed as a case writes it.
 use crate::bytes::text_of;
 use hk_base::Text;
-use hk_feed::{FeedKind, FeedRule};
 use hk_pattern::{Glob, Pattern};
+use hk_rules::{FeedKind, FeedRule};
 use std::alloc::Global;
 use std::test::Fail;
 

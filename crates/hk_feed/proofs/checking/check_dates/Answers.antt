@@ -1,4 +1,4 @@
-use Rattle.std.proofs.Common.{is_none, sym, ap, ◌∙◌}
+use Rattle.std.proofs.Common.{sym, ◌∙◌}
 use Rattle.hk_rules.specs.Plan.{lookups}
 use Rattle.hk_feed.specs.FeedFaults.{lacks_date, no_date}
 use Rattle.hk_feed.proofs.Lists.{found-turn, found-end}
@@ -7,7 +7,7 @@ use Rattle.hk_feed.proofs.checking.check_dates.Goals as goal
 pub loop-item-preserved : goal.loop-item-preserved
 loop-item-preserved c =
     found-turn (no_date (lookups c.args.plan.now)) (lacks_date (lookups c.args.plan.now)) c.args.members.now c.loop-item.item-index c.item-item.result _
-    c.loop-item-test.true c.item-item.is (ap (λ o. is_none o) (sym c.date_at.ensures.value) ∙ (sym c.is_none.ensures ∙ c.if-is_none.false)) c.loop-item.invariant
+    c.loop-item-test.true c.item-item.is (sym c.lacks_date.ensures ∙ c.if-lacks_date.false) c.loop-item.invariant
 
 pub returns : goal.returns
 returns c =

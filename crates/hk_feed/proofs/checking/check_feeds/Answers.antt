@@ -6,14 +6,14 @@ use Rattle.hk_feed.proofs.checking.check_feeds.Goals as goal
 
 pub loop-place-preserved : goal.loop-place-preserved
 loop-place-preserved c =
-    checked-turn (lookups c.args.plan.now) c.args.feeds.now c.loop-place.place c.loop-place-item.result c.loop-place-test.true c.loop-place-item.is c.loop-place.invariant c.in_ok-check_feed.ensures
+    checked-turn (lookups c.args.plan.now) c.args.feeds.now c.loop-place.place c.index-feeds-place.result c.loop-place-test.true c.index-feeds-place.is c.loop-place.invariant c.in_ok-check_feed.ensures
 
 pub returns-in_err-check_feed : goal.returns-in_err-check_feed
 unfolding feeds_fault
 returns-in_err-check_feed c =
     let p = err_from_is_err_and c.from_residual.result c.from_residual.ensures.1 in
     rw (p.1, p.2)
-    (checked-stop (lookups c.args.plan.now) c.args.feeds.now c.loop-place.place c.loop-place-item.result c.loop-place-test.true c.loop-place-item.is c.loop-place.invariant c.in_err-check_feed.field-0.0 c.in_err-check_feed.ensures)
+    (checked-stop (lookups c.args.plan.now) c.args.feeds.now c.loop-place.place c.index-feeds-place.result c.loop-place-test.true c.index-feeds-place.is c.loop-place.invariant c.in_err-check_feed.field-0.0 c.in_err-check_feed.ensures)
 
 pub returns : goal.returns
 unfolding feeds_fault
