@@ -18,4 +18,4 @@ mod xml;
 pub use checking::check_feeds;
 pub use feed_fault::FeedFault;
 pub use laws::{accepted_feeds_are_whole, escaping_is_undone};
-pub use texts::{feed_files, feed_text};
+pub use texts::feed_text;

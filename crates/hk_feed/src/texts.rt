@@ -37,37 +37,6 @@ pub fn feed_text(
     Ok(Text::from_vec(out.into_bytes()))
 }
 
-/// The target and the text of each feed, in the order of the feeds, as `feed_text` gives them. `NoMemory` only for want of
-/// memory. Linear in the bytes of the feeds, after one test of each item and a sort of the members for each feed.
-pub fn feed_files(
-    alloc: Global,
-    plan: &Plan,
-    results: &Results,
-    feeds: &[FeedRule],
-) -> Result<Vec<(Text, Text)>, NoMemory>
-    ensures { IfOk result (λ files. files.items ≡ spec.feed_files (lookups plan.now) (at_place results.now.pages) feeds.now) }
-{
-    let mut files = Vec::with_capacity(alloc, feeds.len())?;
-    for feed in feeds {
-        let file = feed_file(alloc, plan, results, feed)?;
-        files.push(file)?;
-    }
-    Ok(files)
-}
-
-fn feed_file(
-    alloc: Global,
-    plan: &Plan,
-    results: &Results,
-    feed: &FeedRule,
-) -> Result<(Text, Text), NoMemory>
-    ensures { IfOk result (λ file. file ≡ spec.feed_file (lookups plan.now) (at_place results.now.pages) feed.now) }
-{
-    let target = Text::from_slice(alloc, feed.target.as_slice())?;
-    let text = feed_text(alloc, plan, results, feed)?;
-    Ok((target, text))
-}
-
 fn write_feed(
     alloc: Global,
     out: &mut String,
