@@ -1,0 +1,13 @@
+pub mod Cutting
+pub mod Datings
+pub mod Expansion
+pub mod Filters
+pub mod Grouping
+pub mod Linkage
+pub mod Names
+pub mod Pieces
+pub mod Pooling
+pub mod Regrouping
+pub mod Sorting
+pub mod Tagging
+pub mod Turning

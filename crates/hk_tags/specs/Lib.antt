@@ -1,11 +1,10 @@
 pub mod Dates
 pub mod Expanding
-pub mod Grouping
 pub mod Growing
 pub mod Listings
 pub mod Made
 pub mod Members
-pub mod NameOrder
 pub mod Ordered
 pub mod Pages
 pub mod TagTexts
+pub mod Turns
