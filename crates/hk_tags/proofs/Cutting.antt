@@ -47,10 +47,10 @@ pages-once plan table items le =
 pub lists-by-piece : (plan : Lookups) (table : PageRule) → 1 ≤ table.per → ListsByPiece plan table
 unfolding piece_pages
 lists-by-piece plan table le items pages is are =
-    subst (ListsOnce plan table items) (same (pages_of_items table items) pages (sym (ap (pages_by table) is) ∙ are)) (pages-once plan table items le)
+    subst (ListsOnce plan table items) (same (pages_by table (ordered plan table.order (members plan table.of))) (pages_of_items table items) pages (ap (pages_by table) is) are) (pages-once plan table items le)
   where
-    same : (x y : List PageView) → Ok {E = ℕ} x ≡ Ok y → x ≡ y
-    same x y e = cc
+    same : (r : Result (List PageView) ℕ) (x y : List PageView) → r ≡ Ok x → r ≡ Ok y → x ≡ y
+    same r x y d e = cc
 
 pub all-by-piece : (contexts patterns : ℕ) (plan : Lookups) (tables : List PageRule) → AllByRecursion (ArePagesLinked contexts patterns) tables → AllByRecursion (ListsByPiece plan) tables
 all-by-piece contexts patterns plan [] h = tt

@@ -22,7 +22,7 @@ use Rattle.hk_tags.specs.Turns.{in_turn}
 use Rattle.hk_tags.specs.declared.tag_fault.TagFault.{TagFault}
 use Rattle.hk_tags.proofs.Linkage.{AreGrown, all-at, one-grown}
 use Rattle.hk_tags.proofs.Names.{IsKnown}
-use Rattle.hk_tags.proofs.Turning.{went-on, same-ok, turns-keep}
+use Rattle.hk_tags.proofs.Turning.{went-on, turns-keep}
 
 unmapped : (cs : List ContextView) → AllByRecursion (λ name. is_context_name name ≡ true) (context_names cs) → AllByRecursion (λ (c : ContextView). is_context_name c.name ≡ true) cs
 unmapped [] h = tt

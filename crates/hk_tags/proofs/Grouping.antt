@@ -201,10 +201,10 @@ insert-sorted (e ∷ es) k v s = elim (R k e.0) as (λ o. R k e.0 ≡ o → IsSt
 
 -- ---- one more item with a tag
 
-module _ (has : Bytes → ℕ → Type 0) (most item : ℕ) (le : most ≤ item) (tag : Bytes) where
-  abbrev pub More : Bytes → ℕ → Type 0
-  More t i = has t i ⊎ ((tag ≡ t) × (item ≡ i))
+abbrev pub More : (Bytes → ℕ → Type 0) → ℕ → Bytes → Bytes → ℕ → Type 0
+More has item tag t i = has t i ⊎ ((tag ≡ t) × (item ≡ i))
 
+module _ (has : Bytes → ℕ → Type 0) (most item : ℕ) (le : most ≤ item) (tag : Bytes) where
   -- the group of the tag, also where there is none yet
   group-from : (groups : List Entry) → AllByRecursion (λ (g : Entry). IsGroup has most g.0 g.1) groups → ((i : ℕ) → has tag i → IsOne (keys_of groups) tag) → IsGroup has most tag (group_at groups tag)
   group-from [] a covers = record { holds = λ i h. absurd h; all = λ i h. covers i h; up = tt; low = tt }
@@ -220,7 +220,7 @@ module _ (has : Bytes → ℕ → Type 0) (most item : ℕ) (le : most ≤ item)
         | inr r ↦ r
       ]
 
-  grown-by : (items : List ℕ) (b : Bool) → ends_with items item ≡ b → IsGroup has most tag items → IsGroup More item tag (cond b items (items ++ item ∷ []))
+  grown-by : (items : List ℕ) (b : Bool) → ends_with items item ≡ b → IsGroup has most tag items → IsGroup (More has item tag) item tag (cond b items (items ++ item ∷ []))
   grown-by items true e g = record {
     holds = λ i h. inl (g.holds i h);
     all = λ i m. elim m [
@@ -246,7 +246,7 @@ module _ (has : Bytes → ℕ → Type 0) (most item : ℕ) (le : most ≤ item)
       }
 
   -- the group of another tag
-  other-group : (t : Bytes) (items : List ℕ) → tag ≢ t → IsGroup has most t items → IsGroup More item t items
+  other-group : (t : Bytes) (items : List ℕ) → tag ≢ t → IsGroup has most t items → IsGroup (More has item tag) item t items
   other-group t items ne g = record {
     holds = λ i h. inl (g.holds i h);
     all = λ i m. elim m [
@@ -257,7 +257,7 @@ module _ (has : Bytes → ℕ → Type 0) (most item : ℕ) (le : most ≤ item)
     low = all-more (λ x. x ≤ most) (λ x. x ≤ item) (λ x l. omega (arith, le)) items g.low;
   }
 
-  other-groups : (es : List Entry) → AllByRecursion (λ y. R tag y ≡ Less) (keys_of es) → AllByRecursion (λ (g : Entry). IsGroup has most g.0 g.1) es → AllByRecursion (λ (g : Entry). IsGroup More item g.0 g.1) es
+  other-groups : (es : List Entry) → AllByRecursion (λ y. R tag y ≡ Less) (keys_of es) → AllByRecursion (λ (g : Entry). IsGroup has most g.0 g.1) es → AllByRecursion (λ (g : Entry). IsGroup (More has item tag) item g.0 g.1) es
   other-groups [] h a = tt
   other-groups (e ∷ es) h a = (other-group e.0 e.1 (apart tag e.0 Less h.0 less-is-not) a.0, other-groups es h.1 a.1)
 
@@ -265,20 +265,20 @@ module _ (has : Bytes → ℕ → Type 0) (most item : ℕ) (le : most ≤ item)
   equal-below x [] e h = tt
   equal-below x (y ∷ ys) e h = (nat_list_cmp_total.congr tag x y e ∙ h.0, equal-below x ys e h.1)
 
-  each-insert : (es : List Entry) (v : List ℕ) → IsGroup More item tag v → IsStrictlySortedBy R (keys_of es) → AllByRecursion (λ (g : Entry). IsGroup has most g.0 g.1) es → AllByRecursion (λ (g : Entry). IsGroup More item g.0 g.1) (insert_entry R es tag v)
+  each-insert : (es : List Entry) (v : List ℕ) → IsGroup (More has item tag) item tag v → IsStrictlySortedBy R (keys_of es) → AllByRecursion (λ (g : Entry). IsGroup has most g.0 g.1) es → AllByRecursion (λ (g : Entry). IsGroup (More has item tag) item g.0 g.1) (insert_entry R es tag v)
   unfolding IsStrictlySortedBy
   each-insert [] v own s a = (own, tt)
-  each-insert (e ∷ es) v own s a = elim (R tag e.0) as (λ o. R tag e.0 ≡ o → AllByRecursion (λ (g : Entry). IsGroup More item g.0 g.1) (match_ordering o ((tag, v) ∷ e ∷ es) ((e.0, v) ∷ es) (e ∷ insert_entry R es tag v))) [
+  each-insert (e ∷ es) v own s a = elim (R tag e.0) as (λ o. R tag e.0 ≡ o → AllByRecursion (λ (g : Entry). IsGroup (More has item tag) item g.0 g.1) (match_ordering o ((tag, v) ∷ e ∷ es) ((e.0, v) ∷ es) (e ∷ insert_entry R es tag v))) [
     | Less ↦ λ h. (own, other-groups (e ∷ es) (h, all-below tag e.0 (keys_of es) h s.0) a)
-    | Equal ↦ λ h. (subst (λ t. IsGroup More item t v) (exact_bytes tag e.0 h) own, other-groups es (equal-below e.0 (keys_of es) h s.0) a.1)
+    | Equal ↦ λ h. (subst (λ t. IsGroup (More has item tag) item t v) (exact_bytes tag e.0 h) own, other-groups es (equal-below e.0 (keys_of es) h s.0) a.1)
     | Greater ↦ λ h. (other-group e.0 e.1 (apart tag e.0 Greater h greater-is-not) a.0, each-insert es v own s.1 a.1)
   ] refl
 
-  pub with_tag-groups : (groups : List Entry) → AreGroups has most groups → AreGroups More item (with_tag item groups tag)
+  pub with_tag-groups : (groups : List Entry) → AreGroups has most groups → AreGroups (More has item tag) item (with_tag item groups tag)
   with_tag-groups groups h =
       let old = group_at groups tag in
       let new = with_last old item in
-      let own : IsGroup More item tag new = grown-by old (ends_with old item) refl (group-from groups h.each (λ i k. h.covers tag i k)) in
+      let own : IsGroup (More has item tag) item tag new = grown-by old (ends_with old item) refl (group-from groups h.each (λ i k. h.covers tag i k)) in
       record {
         ordered = insert-sorted groups tag new h.ordered;
         each = each-insert groups new own h.ordered h.each;

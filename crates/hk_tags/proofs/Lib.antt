@@ -4,7 +4,9 @@ pub mod Expansion
 pub mod Filters
 pub mod Grouping
 pub mod Linkage
+pub mod Makings
 pub mod Names
+pub mod OrderedWithin
 pub mod Pieces
 pub mod Pooling
 pub mod Regrouping

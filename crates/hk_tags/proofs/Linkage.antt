@@ -1,5 +1,5 @@
 -- The rules that pages make are linked, as those are that they are made of.
-use Rattle.std.proofs.Common.{◌≡◌, ◌∙◌, ℕ, suc, ◌+◌, ◌<◌, ◌≤◌, Bool, true, false, cond, List, [], ◌∷◌, ◌++◌, length, map, get_or, Option, Some, None, Result, Ok, Err, refl, sym, ap, subst, arith, length-append, inl}
+use Rattle.std.proofs.Common.{◌≡◌, ◌∙◌, ℕ, zero, suc, ◌+◌, ◌<◌, ◌≤◌, Bool, true, false, cond, List, [], ◌∷◌, ◌++◌, length, map, get_or, Option, Some, None, Result, Ok, Err, refl, sym, ap, subst, arith, length-append, inl}
 use Rattle.std.specs.Prelude.{bytes_eq, codes, filter_map}
 use Rattle.std.specs.BTreeSet.{insert_key}
 use Rattle.std.specs.List.{AllByRecursion, IsDistinct, cons_option, list_any}
@@ -84,8 +84,11 @@ chain-more c d p q le lq steps h = record { short = h.short; within = all-weaken
 
 pub all-at : {X : Type 0} (P : X → Type 0) (xs : List X) (i : ℕ) (d : X) → i < length xs → AllByRecursion P xs → P (get_or xs i d)
 all-at P [] i d lt h = absurd (omega arith)
-all-at P (x ∷ xs) 0 d lt h = h.0
+all-at P (x ∷ xs) zero d lt h = h.0
 all-at P (x ∷ xs) (suc i) d lt h = all-at P xs i d (omega arith) h.1
+
+pub all-here : {X : Type 0} (P : X → Type 0) (xs : List X) (i : ℕ) (x : X) → i < length xs → x ≡ get_or xs i x → AllByRecursion P xs → P x
+all-here P xs i x lt at h = subst P (sym at) (all-at P xs i x lt h)
 
 consts-linked : (c p : ℕ) (own : List (Bytes × Bytes)) → AllByRecursion (IsLinkedField c p) (map const_field own)
 consts-linked c p [] = tt
@@ -163,6 +166,7 @@ module _ (contexts patterns : ℕ) (base : Lookups) (making : MakingView) (table
       let i = page_ident-of base grown.made page.path w.0 w.1.0 in
       let g = numbered-grown grown.growing.patterns (pages_pattern page) in
       let r = numbered grown.growing.patterns (pages_pattern page) in
-      subst (AreGrown contexts patterns) (same-ok (grown_by base grown making page w.0) next w.1.1)
+      let ok : Result GrownView TagFault = Ok (grown_by base grown making page w.0) in
+      subst (AreGrown contexts patterns) (same-ok ok (grown_by base grown making page w.0) next refl w.1.1)
       (subst (λ id. AreGrown contexts patterns (grown_by base grown making page id)) (sym i.is)
         (made-grown grown page r.0 r.1 h i.free (numbered-below grown.growing.patterns (pages_pattern page)) g.long (g.apart h.named.texts)))

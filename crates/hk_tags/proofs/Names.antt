@@ -1,6 +1,6 @@
 -- The names of the contexts of pages differ from all others.
 use Rattle.std.proofs.Common.{◌≡◌, ◌∙◌, Bool, true, false, List, [], ◌∷◌, ◌++◌, Option, Some, None, Result, Ok, Err, refl, sym, ap, subst, inl, inr}
-use Rattle.std.specs.Prelude.{◌||◌, ◌⊎◌, bytes_eq, codes}
+use Rattle.std.specs.Prelude.{◌||◌, ◌&&◌, ◌⊎◌, bytes_eq, codes, is_some, length, nat_le}
 use Rattle.std.specs.BTreeSet.{insert_key}
 use Rattle.std.specs.Cmp.{tied_itself}
 use Rattle.std.specs.List.{AllByRecursion, list_all, list_any}
@@ -11,6 +11,7 @@ use Rattle.hk_base.specs.Bytes.{Bytes}
 use Rattle.hk_base.specs.IdentTies.{ident_cmp_total}
 use Rattle.hk_base.specs.Identifier.{Ident, ident_cmp, ident_fault, unless}
 use Rattle.hk_base.specs.Ties.{bytes-same}
+use Rattle.hk_base.specs.declared.identifier.IdentFault.{IdentFault}
 use Rattle.hk_forms.specs.IdForm.{value_of}
 use Rattle.hk_forms.specs.Names.{is_name_byte, is_context_name}
 use Rattle.hk_rules.specs.Plan.{Lookups}
@@ -23,19 +24,19 @@ abbrev pub plain_ident : Bytes → Ident
 plain_ident path = record { path = path; version = None }
 
 context-plain : (name : Bytes) → is_context_name name ≡ true → list_all is_name_byte name ≡ true
-context-plain name h = right-part _ _ h
+context-plain name h = right-part (nat_le 1 (length name) && nat_le (length name) 64) (list_all is_name_byte name) h
 
 -- no name of a context has an `@`
 no-sign : {A : Type 0} (own path : Bytes) → list_all is_name_byte (own ++ 64 ∷ path) ≡ true → A
-no-sign [] path h = not-both (is_name_byte 64) (left-part _ _ h) refl
-no-sign (b ∷ own) path h = no-sign own path (right-part _ _ h)
+no-sign [] path h = not-both (is_name_byte 64) (left-part (is_name_byte 64) (list_all is_name_byte path) h) refl
+no-sign (b ∷ own) path h = no-sign own path (right-part (is_name_byte b) (list_all is_name_byte (own ++ 64 ∷ path)) h)
 
 -- so what stands after the first `@` is known
 same-behind : (a b p q : Bytes) → list_all is_name_byte a ≡ true → list_all is_name_byte b ≡ true → a ++ 64 ∷ p ≡ b ++ 64 ∷ q → p ≡ q
 same-behind [] [] p q f g e = cc
-same-behind [] (d ∷ b) p q f g e = let first : 64 ≡ d = cc in not-both (is_name_byte d) (left-part _ _ g) (subst (λ x. is_name_byte x ≡ false) first refl)
-same-behind (c ∷ a) [] p q f g e = let first : c ≡ 64 = cc in not-both (is_name_byte c) (left-part _ _ f) (subst (λ x. is_name_byte x ≡ false) (sym first) refl)
-same-behind (c ∷ a) (d ∷ b) p q f g e = let rest : a ++ 64 ∷ p ≡ b ++ 64 ∷ q = cc in same-behind a b p q (right-part _ _ f) (right-part _ _ g) rest
+same-behind [] (d ∷ b) p q f g e = let first : 64 ≡ d = cc in not-both (is_name_byte d) (left-part (is_name_byte d) (list_all is_name_byte b) g) (subst (λ x. is_name_byte x ≡ false) first refl)
+same-behind (c ∷ a) [] p q f g e = let first : c ≡ 64 = cc in not-both (is_name_byte c) (left-part (is_name_byte c) (list_all is_name_byte a) f) (subst (λ x. is_name_byte x ≡ false) (sym first) refl)
+same-behind (c ∷ a) (d ∷ b) p q f g e = let rest : a ++ 64 ∷ p ≡ b ++ 64 ∷ q = cc in same-behind a b p q (right-part (is_name_byte c) (list_all is_name_byte a) f) (right-part (is_name_byte d) (list_all is_name_byte b) g) rest
 
 differs : (x y : Bytes) → (x ≡ y → ⊥) → bytes_eq x y ≡ false
 differs x y h = elim (bytes_eq x y) as (λ b. bytes_eq x y ≡ b → b ≡ false) [
@@ -114,6 +115,6 @@ pub record IsPageIdent (made : List Ident) (path : Bytes) (id : Ident) : Type 0 
 pub page_ident-of : (base : Lookups) (made : List Ident) (path : Bytes) (id : Ident) → page_ident base made path ≡ Ok id → IsPageIdent made path id
 page_ident-of base made path id e = by (ident_fault path None) e
   where
-    by : (o : _) → and_then (required (BadPath path) (value_of (unless o (plain_ident path)))) (λ i. unless_taken (is_taken base made i) i) ≡ Ok id → IsPageIdent made path id
-    by None h = let u = untaken (is_taken base made (plain_ident path)) (plain_ident path) id h in record { is = u.0; free = right-false _ _ u.1 }
+    by : (o : Option IdentFault) → and_then (required (BadPath path) (value_of (unless o (plain_ident path)))) (λ i. unless_taken (is_taken base made i) i) ≡ Ok id → IsPageIdent made path id
+    by None h = let u = untaken (is_taken base made (plain_ident path)) (plain_ident path) id h in record { is = u.0; free = right-false (is_some (base.find (plain_ident path))) (list_any (is_ident (plain_ident path)) made) u.1 }
     by (Some f) h = cc

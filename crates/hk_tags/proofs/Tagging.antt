@@ -93,7 +93,7 @@ tags-groups item [] has most le groups h = same-groups has (λ t i. has t i ⊎ 
   | inr b ↦ absurd b.0
 ]) groups h
 tags-groups item (tag ∷ tags) has most le groups h =
-    same-groups (λ t i. More has most item le tag t i ⊎ (IsOne tags t × (item ≡ i))) (λ t i. has t i ⊎ (IsOne (tag ∷ tags) t × (item ≡ i))) item item (omega arith)
+    same-groups (λ t i. More has item tag t i ⊎ (IsOne tags t × (item ≡ i))) (λ t i. has t i ⊎ (IsOne (tag ∷ tags) t × (item ≡ i))) item item (omega arith)
     (λ t i k. elim k [
       | inl a ↦ elim a [
         | inl b ↦ inl b
@@ -109,7 +109,7 @@ tags-groups item (tag ∷ tags) has most le groups h =
       ]
     ])
     (fold (with_tag item) (with_tag item groups tag) tags)
-    (tags-groups item tags (More has most item le tag) item (omega arith) (with_tag item groups tag) (with_tag-groups has most item le tag groups h))
+    (tags-groups item tags (More has item tag) item (omega arith) (with_tag item groups tag) (with_tag-groups has most item le tag groups h))
 
 module _ (plan : Lookups) (field : Bytes) where
   items-groups : (items : List ℕ) (has : Bytes → ℕ → Type 0) (most : ℕ) → From most items → (groups : List Entry) → AreGroups has most groups

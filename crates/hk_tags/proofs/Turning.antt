@@ -11,8 +11,8 @@ pub went-on : {X Y F : Type 0} (r : Result X F) (next : X → Result Y F) (y : Y
 went-on (Ok x) next y e = (x, (refl, e))
 went-on (Err f) next y e = cc
 
-pub same-ok : {X F : Type 0} (x y : X) → (Ok x) ≡ (Ok {E = F} y) → x ≡ y
-same-ok x y e = cc
+pub same-ok : {X F : Type 0} (r : Result X F) (x y : X) → r ≡ Ok x → r ≡ Ok y → x ≡ y
+same-ok r x y d e = cc
 
 -- a fault of what comes first is that of both
 pub stops : {X Y F : Type 0} (r : Result X F) (next : X → Result Y F) (e : Refusal F) → Answers r (Err e) → Answers (and_then r next) (Err e)
@@ -35,7 +35,7 @@ module _ {S X F : Type 0} (step : S → X → Result S F) where
 
   -- what each step keeps holds in the end
   pub turns-keep : (P : S → Type 0) (Q : X → Type 0) → ((s : S) (x : X) (t : S) → P s → Q x → step s x ≡ Ok t → P t) → (xs : List X) (s t : S) → P s → AllByRecursion Q xs → in_turn step xs s ≡ Ok t → P t
-  turns-keep P Q keep [] s t p q e = subst P (same-ok s t e) p
+  turns-keep P Q keep [] s t p q e = subst P (same-ok (in_turn step [] s) s t refl e) p
   turns-keep P Q keep (x ∷ xs) s t p q e =
       let m = went-on (step s x) (in_turn step xs) t e in
       turns-keep P Q keep xs m.0 t (keep s x m.0 p q.0 m.1.0) q.1 m.1.1

@@ -226,18 +226,22 @@ fn with_page_table(
 }
 
 /// The pages of a table for numbered pages.
+#[tactic(auto, unfolding(crate::specs::Pages::piece_pages))]
 fn piece_pages(
     alloc: Global,
     base: &Plan,
     table: &PageRule,
 ) -> Result<Vec<TablePage>, Refusal<TagFault>>
     requires { 1 ≤ table.now.per }
-    ensures value { AnswersList (spec.dated_pages (lookups base.now) (pages.piece_pages (lookups base.now) table.now)) result }
-    ensures within { IfOk result (λ v. ArePagesWithin (length base.now.items) v.items) }
+    ensures { AnswersList (spec.dated_pages (lookups base.now) (pages.piece_pages (lookups base.now) table.now)) result }
 {
     let members = members(alloc, base, &table.of)?;
-    match in_order(alloc, base, table.order, members)? {
-        Ordered::Items(items) => Ok(pages_of_items(alloc, table, &items)?),
+    let ordered = in_order(alloc, base, table.order, members)?;
+    match ordered {
+        Ordered::Items(items) => {
+            let pages = pages_of_items(alloc, table, &items)?;
+            Ok(pages)
+        }
         Ordered::Lacks(item) => {
             let id = base.id(item).copy(alloc)?;
             Err(Refusal::Fault(TagFault::NoDate { id }))

@@ -7,7 +7,6 @@ ghost use Rattle.std.specs.List.Sorted.{IsStrictlySortedBy};
 ghost use Rattle.std.specs.Map.{keys_of, remove_entry};
 ghost use Rattle.std.specs.Ordering.{nat_cmp};
 ghost use Rattle.hk_rules.specs.Plan.{lookups};
-ghost use Rattle.hk_tags.specs.Listings.{ArePagesWithin};
 ghost use Rattle.hk_tags.specs.Pages as spec;
 
 use crate::members::{members, tags_at};
@@ -28,12 +27,12 @@ pub(crate) fn tag_pages(
     plan: &Plan,
     table: &TagRule,
 ) -> Result<Vec<TablePage>, NoMemory>
-    ensures value { IfOk result (λ v. v.items ≡ spec.tag_pages (lookups plan.now) table.now) }
-    ensures within { IfOk result (λ v. ArePagesWithin (length plan.now.items) v.items) }
+    ensures { IfOk result (λ v. v.items ≡ spec.tag_pages (lookups plan.now) table.now) }
 {
     let members = members(alloc, plan, &table.of)?;
     let groups = grouped(alloc, plan, table.field.as_slice(), &members)?;
-    pages_of(alloc, table, groups)
+    let pages = pages_of(alloc, table, groups)?;
+    Ok(pages)
 }
 
 /// For each tag of the items those that have it. The items are to ascend.

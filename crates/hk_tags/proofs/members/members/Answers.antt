@@ -10,13 +10,13 @@ loop-number-init c = filter-init (is_member (lookups c.args.plan.now) c.args.of.
 
 pub loop-number-preserved : goal.loop-number-preserved
 loop-number-preserved c =
-    filter-step (is_member (lookups c.args.plan.now) c.args.of.now) (lookups c.args.plan.now).count c.loop-number.number _ _ _ (omega (arith, c.loop-number-test.true, c.count.ensures.value)) c.in_ok-add_member.ensures c.loop-number.invariant
+    filter-step (is_member (lookups c.args.plan.now) c.args.of.now) (lookups c.args.plan.now).count c.loop-number.number _ _ _ (omega (arith, c.loop-number-test.true, c.count-number-end.ensures.value)) c.in_ok-add_member.ensures c.loop-number.invariant
 
 pub returns-clause-members : goal.returns-clause-members
 returns-clause-members c =
-    filter-over (is_member (lookups c.args.plan.now) c.args.of.now) (lookups c.args.plan.now).count c.loop-number.number _ _ (omega (arith, c.loop-number-test.false, c.count.ensures.value)) c.loop-number.invariant
+    filter-over (is_member (lookups c.args.plan.now) c.args.of.now) (lookups c.args.plan.now).count c.loop-number.number _ _ (omega (arith, c.loop-number-test.false, c.count-number-end.ensures.value)) c.loop-number.invariant
 
 pub returns-clause-within : goal.returns-clause-within
 returns-clause-within c =
     subst (λ items. AllByRecursion (λ item. item < length c.args.plan.now.items) items) (sym (returns-clause-members c))
-    (filter-all (is_member (lookups c.args.plan.now) c.args.of.now) (λ item. item < length c.args.plan.now.items) (lookups c.args.plan.now).count (λ q lt. omega (arith, lt, c.count.ensures.value, c.count.ensures.items)))
+    (filter-all (is_member (lookups c.args.plan.now) c.args.of.now) (λ item. item < length c.args.plan.now.items) (lookups c.args.plan.now).count (λ q lt. omega (arith, lt, c.count-number-end.ensures.value, c.count-number-end.ensures.items)))
