@@ -1,5 +1,5 @@
 -- Rules with pages are linked, where the rules that they are made of are.
-use Rattle.std.proofs.Common.{◌≡◌, ℕ, ◌<◌, ◌≤◌, Bool, true, false, List, [], ◌∷◌, length, Result, Ok, Err, sym, subst, arith, inl}
+use Rattle.std.proofs.Common.{◌≡◌, ℕ, ◌<◌, ◌≤◌, Bool, true, false, List, [], ◌∷◌, length, Result, Ok, Err, sym, ap, ◌∙◌, subst, arith, inl}
 use Rattle.std.specs.Prelude.{nat_lt, ◌+◌, IfOk}
 use Rattle.hk_base.specs.Answers.{Answers}
 use Rattle.hk_base.specs.declared.refusal.Refusal.{Refusal}
@@ -22,7 +22,7 @@ use Rattle.hk_tags.specs.Turns.{in_turn}
 use Rattle.hk_tags.specs.declared.tag_fault.TagFault.{TagFault}
 use Rattle.hk_tags.proofs.Linkage.{AreGrown, all-at, one-grown}
 use Rattle.hk_tags.proofs.Names.{IsKnown}
-use Rattle.hk_tags.proofs.Turning.{went-on, turns-keep}
+use Rattle.hk_tags.proofs.Turning.{went-on, stops, goes-on, turns-keep}
 
 unmapped : (cs : List ContextView) → AllByRecursion (λ name. is_context_name name ≡ true) (context_names cs) → AllByRecursion (λ (c : ContextView). is_context_name c.name ≡ true) cs
 unmapped [] h = tt
@@ -87,3 +87,37 @@ contexts-behind-pages rules count le tables = all-weaken (ArePagesLinked (length
 
 pub pages-have-some : (rules : RulesView) → HasLinkedTables rules → AllByRecursion (λ (table : PageRule). 1 ≤ table.per) rules.pages
 pages-have-some rules tables = all-weaken (ArePagesLinked (length rules.contexts) (length rules.patterns)) (λ (table : PageRule). 1 ≤ table.per) (λ table h. h.1.0) rules.pages tables.pages
+
+-- ---- the steps of the expansion
+
+module _ (base : Lookups) (rules : RulesView) (grown : GrownView) (tags : List TagRule) (begun : grown ≡ start rules) (tagging : tags ≡ rules.tags) where
+  after-tags : in_turn (with_tag_table base) tags grown ≡ in_turn (with_tag_table base) rules.tags (start rules)
+  after-tags = ap (λ ts. in_turn (with_tag_table base) ts grown) tagging ∙ ap (in_turn (with_tag_table base) rules.tags) begun
+
+  abbrev rest : GrownView → Result RulesView TagFault
+  rest g = and_then (in_turn (with_page_table base) rules.pages g) (counted base rules.feeds)
+
+  pub expanded-on : (tagged paged : GrownView) (pages : List PageRule) (feeds : List FeedRule) (r : Result RulesView (Refusal TagFault))
+      → in_turn (with_tag_table base) tags grown ≡ Ok tagged → pages ≡ rules.pages → in_turn (with_page_table base) pages tagged ≡ Ok paged → feeds ≡ rules.feeds → Answers (counted base feeds paged) r → Answers (expand_by base rules) r
+  expanded-on tagged paged pages feeds r one paging two feeding end =
+      goes-on (in_turn (with_tag_table base) rules.tags (start rules)) rest tagged r (sym after-tags ∙ one)
+      (goes-on (in_turn (with_page_table base) rules.pages tagged) (counted base rules.feeds) paged r (ap (λ ps. in_turn (with_page_table base) ps tagged) (sym paging) ∙ two)
+        (subst (λ fs. Answers (counted base fs paged) r) feeding end))
+
+  pub stopped-at-tags : (e : Refusal TagFault) → Answers (in_turn (with_tag_table base) tags grown) (Err e) → Answers (expand_by base rules) (Err e)
+  stopped-at-tags e one = stops (in_turn (with_tag_table base) rules.tags (start rules)) rest e (subst (λ r. Answers {T = GrownView} r (Err e)) after-tags one)
+
+  pub stopped-at-pages : (tagged : GrownView) (pages : List PageRule) (e : Refusal TagFault) → in_turn (with_tag_table base) tags grown ≡ Ok tagged → pages ≡ rules.pages → Answers (in_turn (with_page_table base) pages tagged) (Err e) → Answers (expand_by base rules) (Err e)
+  stopped-at-pages tagged pages e one paging two =
+      goes-on (in_turn (with_tag_table base) rules.tags (start rules)) rest tagged (Err e) (sym after-tags ∙ one)
+      (stops (in_turn (with_page_table base) rules.pages tagged) (counted base rules.feeds) e (subst (λ ps. Answers {T = GrownView} (in_turn (with_page_table base) ps tagged) (Err e)) paging two))
+
+  pub tags-ready : HasLinkedTables rules → AllByRecursion (λ (table : TagRule). table.context < length grown.growing.contexts) tags
+  tags-ready tables =
+      subst (λ g. AllByRecursion (λ (table : TagRule). table.context < length g.growing.contexts) tags) (sym begun)
+      (subst (AllByRecursion (λ (table : TagRule). table.context < length rules.contexts)) (sym tagging) (contexts-behind-tags rules tables))
+
+  pub pages-ready : (tagged : GrownView) (pages : List PageRule) → HasLinkedTables rules → length grown.growing.contexts ≤ length tagged.growing.contexts → pages ≡ rules.pages → AllByRecursion (λ (table : PageRule). table.context < length tagged.growing.contexts) pages
+  pages-ready tagged pages tables more paging =
+      subst (AllByRecursion (λ (table : PageRule). table.context < length tagged.growing.contexts)) (sym paging)
+      (contexts-behind-pages rules (length tagged.growing.contexts) (subst (λ g. length g.growing.contexts ≤ length tagged.growing.contexts) begun more) tables)
