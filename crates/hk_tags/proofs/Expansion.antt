@@ -102,7 +102,7 @@ module _ (base : Lookups) (rules : RulesView) (grown : GrownView) (tags : List T
   expanded-on tagged paged pages feeds r one paging two feeding end =
       goes-on (in_turn (with_tag_table base) rules.tags (start rules)) rest tagged r (sym after-tags ∙ one)
       (goes-on (in_turn (with_page_table base) rules.pages tagged) (counted base rules.feeds) paged r (ap (λ ps. in_turn (with_page_table base) ps tagged) (sym paging) ∙ two)
-        (subst (λ fs. Answers (counted base fs paged) r) feeding end))
+      (subst (λ fs. Answers (counted base fs paged) r) feeding end))
 
   pub stopped-at-tags : (e : Refusal TagFault) → Answers (in_turn (with_tag_table base) tags grown) (Err e) → Answers (expand_by base rules) (Err e)
   stopped-at-tags e one = stops (in_turn (with_tag_table base) rules.tags (start rules)) rest e (subst (λ r. Answers {T = GrownView} r (Err e)) after-tags one)

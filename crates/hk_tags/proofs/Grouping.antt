@@ -125,12 +125,15 @@ same-groups has other most high le to back groups h = record {
   where
     each : (gs : List Entry) → AllByRecursion (λ (g : Entry). IsGroup has most g.0 g.1) gs → AllByRecursion (λ (g : Entry). IsGroup other high g.0 g.1) gs
     each [] a = tt
-    each (g ∷ gs) a = (record {
-      holds = λ i k. to g.0 i (a.0.holds i k);
-      all = λ i o. a.0.all i (back g.0 i o);
-      up = a.0.up;
-      low = all-more (λ x. x ≤ most) (λ x. x ≤ high) (λ x l. omega arith) g.1 a.0.low;
-    }, each gs a.1)
+    each (g ∷ gs) a = (
+      record {
+        holds = λ i k. to g.0 i (a.0.holds i k);
+        all = λ i o. a.0.all i (back g.0 i o);
+        up = a.0.up;
+        low = all-more (λ x. x ≤ most) (λ x. x ≤ high) (λ x l. omega arith) g.1 a.0.low;
+      },
+      each gs a.1,
+    )
 
 -- ---- keys
 

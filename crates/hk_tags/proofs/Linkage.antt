@@ -113,13 +113,13 @@ module _ (contexts patterns : ℕ) (base : Lookups) (making : MakingView) (table
   made-grown : (grown : GrownView) (page : PageView) (number : ℕ) (next : List Pattern) → AreGrown contexts patterns grown → list_any (is_ident (plain_ident page.path)) grown.made ≡ false
       → number < length next → length grown.growing.patterns ≤ length next → IsDistinct bytes_eq (texts_of next)
       → AreGrown contexts patterns (record {
-          growing = record {
-            rules = grown.growing.rules ++ page_rule making (length grown.growing.contexts) (plain_ident page.path) ∷ [];
-            contexts = grown.growing.contexts ++ page_context grown.growing.contexts making page number ∷ [];
-            patterns = next;
-          };
-          made = insert_key ident_cmp grown.made (plain_ident page.path);
-        })
+        growing = record {
+          rules = grown.growing.rules ++ page_rule making (length grown.growing.contexts) (plain_ident page.path) ∷ [];
+          contexts = grown.growing.contexts ++ page_context grown.growing.contexts making page number ∷ [];
+          patterns = next;
+        };
+        made = insert_key ident_cmp grown.made (plain_ident page.path);
+      })
   made-grown grown page number next h free below more apart =
       let cs = grown.growing.contexts in
       let n = length cs in
@@ -137,22 +137,23 @@ module _ (contexts patterns : ℕ) (base : Lookups) (making : MakingView) (table
       let fields : AllByRecursion (IsLinkedField n p) behind.fields = all-at (λ context. AllByRecursion (IsLinkedField n p) context.fields) cs making.context no_context (omega (arith, table.behind, h.long)) h.named.within in
       record {
         chains = all-push (λ rule. IsLinkedChain (length (cs ++ c ∷ [])) q rule.chain) grown.growing.rules (page_rule making n (plain_ident page.path))
-          (all-weaken (λ rule. IsLinkedChain n p rule.chain) (λ rule. IsLinkedChain (length (cs ++ c ∷ [])) q rule.chain) (λ rule k. chain-more n (length (cs ++ c ∷ [])) p q le more rule.chain k) grown.growing.rules h.chains)
-          (chain-in contexts (length (cs ++ c ∷ [])) patterns q making.context n wide few new making.chain table.linked);
+            (all-weaken (λ rule. IsLinkedChain n p rule.chain) (λ rule. IsLinkedChain (length (cs ++ c ∷ [])) q rule.chain) (λ rule k. chain-more n (length (cs ++ c ∷ [])) p q le more rule.chain k) grown.growing.rules h.chains)
+            (chain-in contexts (length (cs ++ c ∷ [])) patterns q making.context n wide few new making.chain table.linked);
         named = record {
           within = all-push (λ context. AllByRecursion (IsLinkedField (length (cs ++ c ∷ [])) q) context.fields) cs c
-            (all-weaken (λ context. AllByRecursion (IsLinkedField n p) context.fields) (λ context. AllByRecursion (IsLinkedField (length (cs ++ c ∷ [])) q) context.fields)
-              (λ context k. all-weaken (IsLinkedField n p) (IsLinkedField (length (cs ++ c ∷ [])) q) (field-more n (length (cs ++ c ∷ [])) p q le more) context.fields k) cs h.named.within)
-            ((below, (omega (arith, size, h.long, table.listed), tt)),
-              all-append (IsLinkedField (length (cs ++ c ∷ [])) q) (map const_field page.own) behind.fields (consts-linked (length (cs ++ c ∷ [])) q page.own)
-              (all-weaken (IsLinkedField n p) (IsLinkedField (length (cs ++ c ∷ [])) q) (field-more n (length (cs ++ c ∷ [])) p q le more) behind.fields fields));
+              (all-weaken (λ context. AllByRecursion (IsLinkedField n p) context.fields) (λ context. AllByRecursion (IsLinkedField (length (cs ++ c ∷ [])) q) context.fields)
+              (λ context k. all-weaken (IsLinkedField n p) (IsLinkedField (length (cs ++ c ∷ [])) q) (field-more n (length (cs ++ c ∷ [])) p q le more) context.fields k) cs h.named.within) (
+                (below, (omega (arith, size, h.long, table.listed), tt)),
+                all-append (IsLinkedField (length (cs ++ c ∷ [])) q) (map const_field page.own) behind.fields (consts-linked (length (cs ++ c ∷ [])) q page.own)
+                    (all-weaken (IsLinkedField n p) (IsLinkedField (length (cs ++ c ∷ [])) q) (field-more n (length (cs ++ c ∷ [])) p q le more) behind.fields fields),
+              );
           names = subst (IsDistinct bytes_eq) names (distinct-push bytes_eq (context_names cs) c.name h.named.names
-            (all-weaken (IsKnown grown.made) (λ x. bytes_eq x c.name ≡ false) (known-differs grown.made behind.name page.path formed free) (context_names cs) h.known));
+              (all-weaken (IsKnown grown.made) (λ x. bytes_eq x c.name ≡ false) (known-differs grown.made behind.name page.path formed free) (context_names cs) h.known));
           texts = apart;
         };
         routes = all-push (λ rule. IsRouted rule.route) grown.growing.rules (page_rule making n (plain_ident page.path)) h.routes table.routed;
         known = subst (AllByRecursion (IsKnown (insert_key ident_cmp grown.made (plain_ident page.path)))) names
-          (all-push (IsKnown (insert_key ident_cmp grown.made (plain_ident page.path))) (context_names cs) c.name
+            (all-push (IsKnown (insert_key ident_cmp grown.made (plain_ident page.path))) (context_names cs) c.name
             (all-weaken (IsKnown grown.made) (IsKnown (insert_key ident_cmp grown.made (plain_ident page.path))) (known-more grown.made (plain_ident page.path)) (context_names cs) h.known)
             (known-new grown.made behind.name page.path formed));
         long = wide;
@@ -169,4 +170,4 @@ module _ (contexts patterns : ℕ) (base : Lookups) (making : MakingView) (table
       let ok : Result GrownView TagFault = Ok (grown_by base grown making page w.0) in
       subst (AreGrown contexts patterns) (same-ok ok (grown_by base grown making page w.0) next refl w.1.1)
       (subst (λ id. AreGrown contexts patterns (grown_by base grown making page id)) (sym i.is)
-        (made-grown grown page r.0 r.1 h i.free (numbered-below grown.growing.patterns (pages_pattern page)) g.long (g.apart h.named.texts)))
+      (made-grown grown page r.0 r.1 h i.free (numbered-below grown.growing.patterns (pages_pattern page)) g.long (g.apart h.named.texts)))

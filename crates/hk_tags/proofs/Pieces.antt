@@ -17,7 +17,7 @@ pub page-turn : (table : PageRule) (items : List ℕ) (place : ℕ) (old new : L
     → old ≡ map (page_at table items) (range_with_len 0 place) → new ≡ old ++ page ∷ [] → new ≡ map (page_at table items) (range_with_len 0 (place + 1))
 page-turn table items place old new page count members per rest counted left front is so_far more =
     let here : page ≡ page_at table items place =
-      is ∙ (ap (λ c. piece_page table c (place + 1) members) counted ∙ ap (piece_page table (count_of_pieces table.per (length items)) (place + 1)) (front ∙ ap (take table.per) left)) in
+    is ∙ (ap (λ c. piece_page table c (place + 1) members) counted ∙ ap (piece_page table (count_of_pieces table.per (length items)) (place + 1)) (front ∙ ap (take table.per) left)) in
     more ∙ (ap (λ l. l ++ page ∷ []) so_far ∙ (ap (λ p. map (page_at table items) (range_with_len 0 place) ++ p ∷ []) here ∙ sym (map-range_with_len_more (page_at table items) 0 place place (zero-add place))))
 
 pub pages-all : (table : PageRule) (items : List ℕ) (place count : ℕ) (pages : List PageView) → count ≡ count_of_pieces table.per (length items) → place ≡ count → pages ≡ map (page_at table items) (range_with_len 0 place) → pages ≡ pages_of_items table items

@@ -114,29 +114,34 @@ tags-groups item (tag ∷ tags) has most le groups h =
 module _ (plan : Lookups) (field : Bytes) where
   items-groups : (items : List ℕ) (has : Bytes → ℕ → Type 0) (most : ℕ) → From most items → (groups : List Entry) → AreGroups has most groups
       → (high : ℕ) × AreGroups (λ t i. has t i ⊎ (IsOne items i × IsOne (tags_at plan field i) t)) high (fold (with_tags_of plan field) groups items)
-  items-groups [] has most from groups h = (most, same-groups has (λ t i. has t i ⊎ (⊥ × IsOne (tags_at plan field i) t)) most most (omega arith) (λ t i k. inl k) (λ t i k. elim k [
-    | inl a ↦ a
-    | inr b ↦ absurd b.0
-  ]) groups h)
+  items-groups [] has most from groups h = (
+    most,
+    same-groups has (λ t i. has t i ⊎ (⊥ × IsOne (tags_at plan field i) t)) most most (omega arith) (λ t i k. inl k) (λ t i k. elim k [
+      | inl a ↦ a
+      | inr b ↦ absurd b.0
+    ]) groups h,
+  )
   items-groups (item ∷ items) has most from groups h =
       let first = tags-groups item (tags_at plan field item) has most from.0 groups h in
-      let rest = items-groups items (λ t i. has t i ⊎ (IsOne (tags_at plan field item) t × (item ≡ i))) item from.1 (with_tags_of plan field groups item) first in
-      (rest.0, same-groups (λ t i. (has t i ⊎ (IsOne (tags_at plan field item) t × (item ≡ i))) ⊎ (IsOne items i × IsOne (tags_at plan field i) t)) (λ t i. has t i ⊎ (IsOne (item ∷ items) i × IsOne (tags_at plan field i) t)) rest.0 rest.0 (omega arith)
-        (λ t i k. elim k [
-          | inl a ↦ elim a [
-            | inl b ↦ inl b
-            | inr p ↦ inr (inl p.1, subst (λ j. IsOne (tags_at plan field j) t) p.1 p.0)
-          ]
-          | inr p ↦ inr (inr p.0, p.1)
-        ])
-        (λ t i k. elim k [
-          | inl b ↦ inl (inl b)
-          | inr p ↦ elim p.0 [
-            | inl same ↦ inl (inr (subst (λ j. IsOne (tags_at plan field j) t) (sym same) p.1, same))
-            | inr r ↦ inr (r, p.1)
-          ]
-        ])
-        (fold (with_tags_of plan field) (with_tags_of plan field groups item) items) rest.1)
+      let rest = items-groups items (λ t i. has t i ⊎ (IsOne (tags_at plan field item) t × (item ≡ i))) item from.1 (with_tags_of plan field groups item) first in (
+        rest.0,
+        same-groups (λ t i. (has t i ⊎ (IsOne (tags_at plan field item) t × (item ≡ i))) ⊎ (IsOne items i × IsOne (tags_at plan field i) t)) (λ t i. has t i ⊎ (IsOne (item ∷ items) i × IsOne (tags_at plan field i) t)) rest.0 rest.0 (omega arith)
+            (λ t i k. elim k [
+              | inl a ↦ elim a [
+                | inl b ↦ inl b
+                | inr p ↦ inr (inl p.1, subst (λ j. IsOne (tags_at plan field j) t) p.1 p.0)
+              ]
+              | inr p ↦ inr (inr p.0, p.1)
+            ])
+            (λ t i k. elim k [
+              | inl b ↦ inl (inl b)
+              | inr p ↦ elim p.0 [
+                | inl same ↦ inl (inr (subst (λ j. IsOne (tags_at plan field j) t) (sym same) p.1, same))
+                | inr r ↦ inr (r, p.1)
+              ]
+            ])
+            (fold (with_tags_of plan field) (with_tags_of plan field groups item) items) rest.1,
+      )
 
 -- whether a tag is one of some
 one-tag : (tags : List Bytes) (tag : Bytes) → IsOne tags tag → list_any (λ own. bytes_eq own tag) tags ≡ true
@@ -171,17 +176,19 @@ Has plan table tag item = ⊥ ⊎ (IsOne (members plan table.of) item × IsOne (
 
 group-lists : (plan : Lookups) (table : TagRule) (most : ℕ) (groups : List Entry) → AllByRecursion (λ (g : Entry). IsGroup (Has plan table) most g.0 g.1) groups → ArePagesOf plan table (keys_of groups) (map (group_page table) groups)
 group-lists plan table most [] h = tt
-group-lists plan table most (g ∷ groups) h =
-    (record {
-      lists = λ item. (
-        λ one. elim (h.0.holds item one) [
-          | inl no ↦ absurd no
-          | inr p ↦ (p.0, one-tag (tags_at plan table.field item) g.0 p.1)
-        ],
-        λ p. h.0.all item (inr (p.0, tag-one (tags_at plan table.field item) g.0 p.1)),
-      );
-      ascends = up-sorted g.1 h.0.up;
-    }, group-lists plan table most groups h.1)
+group-lists plan table most (g ∷ groups) h = (
+  record {
+    lists = λ item. (
+      λ one. elim (h.0.holds item one) [
+        | inl no ↦ absurd no
+        | inr p ↦ (p.0, one-tag (tags_at plan table.field item) g.0 p.1)
+      ],
+      λ p. h.0.all item (inr (p.0, tag-one (tags_at plan table.field item) g.0 p.1)),
+    );
+    ascends = up-sorted g.1 h.0.up;
+  },
+  group-lists plan table most groups h.1,
+)
 
 pub lists-by-tag : (plan : Lookups) (table : TagRule) → ListsByTag plan table
 unfolding tag_pages IsStrictlySortedBy

@@ -202,12 +202,7 @@ fn page_rule(
 }
 
 /// The same steps, with the new context in the place of the old one.
-fn chain_in(
-    alloc: Global,
-    chain: &Chain,
-    old: ContextNo,
-    new: ContextNo,
-) -> Result<Chain, NoMemory>
+fn chain_in(alloc: Global, chain: &Chain, old: ContextNo, new: ContextNo) -> Result<Chain, NoMemory>
     ensures { IfOk result (λ c. c ≡ map (spec.step_in old new) chain.now) }
 {
     let mut steps = Vec::with_capacity(alloc, chain.steps.len())?;

@@ -83,11 +83,7 @@ fn add_tag(
 }
 
 /// The items of a tag, taken out.
-fn taken(
-    alloc: Global,
-    groups: &mut BTreeMap<Text, Items<ItemNo>>,
-    tag: &Text,
-) -> Items<ItemNo>
+fn taken(alloc: Global, groups: &mut BTreeMap<Text, Items<ItemNo>>, tag: &Text) -> Items<ItemNo>
     ensures group { result ≡ spec.group_at groups.old.entries tag.now }
     ensures rest { groups.new.entries ≡ remove_entry (is_at (slice_cmp nat_cmp tag.now)) groups.old.entries }
     ensures ordered { IsStrictlySortedBy (slice_cmp nat_cmp) (keys_of groups.old.entries) }
