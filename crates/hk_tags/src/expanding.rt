@@ -44,9 +44,14 @@ struct Grown {
 }
 
 impl Model for Grown {
+    ghost use Rattle.std.specs.Coded.{codes};
+    ghost use Rattle.hk_pattern.specs.contracts.pattern.Pattern as pattern;
+    ghost use Rattle.hk_route.specs.contracts.route.Route as route;
     ghost use Rattle.hk_tags.specs.Expanding.{GrownView};
 
     ghost Value = { GrownView };
+
+    ghost coded = { Prim.hlevel (codes, pattern.the_row.coded, route.the_row.coded) };
 
     ghost view = { λ g. record { growing = g.growing; made = g.made.keys } };
 }
@@ -130,14 +135,16 @@ fn grown_of(alloc: Global, rules: &Rules) -> Result<Grown, NoMemory>
     requires { IsDistinct bytes_eq (texts_of rules.now.patterns) }
     ensures { IfOk result (λ g. g ≡ spec.start rules.now) }
 {
-    Ok(Grown {
-        growing: Growing {
-            rules: copy_rules(alloc, &rules.rules)?,
-            contexts: copy_contexts(alloc, &rules.contexts)?,
-            pool: pool_of(alloc, &rules.patterns)?,
-        },
-        made: BTreeSet::new(alloc),
-    })
+    let copies = copy_rules(alloc, &rules.rules)?;
+    let contexts = copy_contexts(alloc, &rules.contexts)?;
+    let pool = pool_of(alloc, &rules.patterns)?;
+    let growing = Growing {
+        rules: copies,
+        contexts,
+        pool,
+    };
+    let made = BTreeSet::new(alloc);
+    Ok(Grown { growing, made })
 }
 
 /// The patterns by number again. Their texts differ.
