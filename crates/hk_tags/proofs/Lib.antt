@@ -1,0 +1,15 @@
+pub mod Cutting
+pub mod Datings
+pub mod Expansion
+pub mod Filters
+pub mod Grouping
+pub mod Linkage
+pub mod Makings
+pub mod Names
+pub mod OrderedWithin
+pub mod Pieces
+pub mod Pooling
+pub mod Regrouping
+pub mod Sorting
+pub mod Tagging
+pub mod Turning

@@ -17,8 +17,8 @@ use Rattle.hk_rules_file.specs.declared.tables.FeedRule.{FeedRule}
 use Rattle.hk_rules_file.specs.declared.tables.PageRule.{PageRule}
 use Rattle.hk_rules_file.specs.declared.tables.TagRule.{TagRule}
 use Rattle.hk_tags.specs.Growing.{MakingView, GrowingView, tags_making, pages_making, with_page}
-use Rattle.hk_tags.specs.NameOrder.{in_name_order}
 use Rattle.hk_tags.specs.Pages.{PageView, tag_pages, piece_pages}
+use Rattle.hk_tags.specs.Turns.{in_turn}
 use Rattle.hk_tags.specs.declared.tag_fault.TagFault.{TagFault}
 use Rattle.hk_tags.specs.declared.tag_fault.TagFault.TheVariants.{BadPath, Taken, NoDate, TooManyItems}
 
@@ -44,42 +44,40 @@ page_ident base made path = and_then (required (BadPath path) (ident_at path Non
 abbrev pub grown_by : Lookups → GrownView → MakingView → PageView → Ident → GrownView
 grown_by base grown making page id = record { growing = with_page base grown.growing making page id; made = insert_key ident_cmp grown.made id }
 
+-- with a page more
+abbrev pub with_one : Lookups → MakingView → GrownView → PageView → Result GrownView TagFault
+with_one base making grown page = and_then (page_ident base grown.made page.path) (λ id. Ok (grown_by base grown making page id))
+
 -- with the pages of a table
 abbrev pub with_pages : Lookups → MakingView → List PageView → GrownView → Result GrownView TagFault
-with_pages base making [] grown = Ok grown
-with_pages base making (page ∷ pages) grown =
-    and_then (page_ident base grown.made page.path) (λ id. with_pages base making pages (grown_by base grown making page id))
+with_pages base making pages grown = in_turn (with_one base making) pages grown
 
--- with the pages of the tables for tags
-abbrev pub with_tags : Lookups → List TagRule → GrownView → Result GrownView TagFault
-with_tags base [] grown = Ok grown
-with_tags base (table ∷ tables) grown = and_then (with_pages base (tags_making table) (tag_pages base table) grown) (with_tags base tables)
+-- with those of a table for tags
+abbrev pub with_tag_table : Lookups → GrownView → TagRule → Result GrownView TagFault
+with_tag_table base grown table = with_pages base (tags_making table) (tag_pages base table) grown
 
+-- with those of a table for numbered pages
 abbrev pub dated_pages : Lookups → Result (List PageView) ℕ → Result (List PageView) TagFault
 dated_pages base (Ok pages) = Ok pages
 dated_pages base (Err item) = Err (NoDate (base.id item))
 
--- with those of the tables for numbered pages
-abbrev pub with_pieces : Lookups → List PageRule → GrownView → Result GrownView TagFault
-with_pieces base [] grown = Ok grown
-with_pieces base (table ∷ tables) grown =
-    and_then (dated_pages base (piece_pages base table)) (λ pages.
-    and_then (with_pages base (pages_making table) pages grown) (with_pieces base tables))
+abbrev pub with_page_table : Lookups → GrownView → PageRule → Result GrownView TagFault
+with_page_table base grown table = and_then (dated_pages base (piece_pages base table)) (λ pages. with_pages base (pages_making table) pages grown)
 
 -- the most items of a plan
 abbrev pub most_items : ℕ
 most_items = 65535
 
--- the rules in the order of their contexts' names, without tables, since these are done
-abbrev pub whole : List FeedRule → List Pattern → List Rule × List ContextView → RulesView
-whole feeds patterns r = record { rules = r.0; contexts = r.1; patterns = patterns; tags = []; pages = []; feeds = feeds }
+-- the rules without tables, since these are done
+abbrev pub whole : List FeedRule → GrowingView → RulesView
+whole feeds growing = record { rules = growing.rules; contexts = growing.contexts; patterns = growing.patterns; tags = []; pages = []; feeds = feeds }
 
 abbrev pub unless_many : Bool → RulesView → Result RulesView TagFault
 unless_many many rules = if many then Err TooManyItems else Ok rules
 
 abbrev pub counted : Lookups → List FeedRule → GrownView → Result RulesView TagFault
 counted base feeds grown =
-    unless_many (nat_lt most_items (base.count + length grown.made)) (whole feeds grown.growing.patterns (in_name_order grown.growing.rules grown.growing.contexts))
+    unless_many (nat_lt most_items (base.count + length grown.made)) (whole feeds grown.growing)
 
 -- the rules before any page
 abbrev pub start : RulesView → GrownView
@@ -87,8 +85,8 @@ start rules = record { growing = record { rules = rules.rules; contexts = rules.
 
 abbrev pub expand_by : Lookups → RulesView → Result RulesView TagFault
 expand_by base rules =
-    and_then (with_tags base rules.tags (start rules)) (λ grown.
-    and_then (with_pieces base rules.pages grown) (counted base rules.feeds))
+    and_then (in_turn (with_tag_table base) rules.tags (start rules)) (λ grown.
+    and_then (in_turn (with_page_table base) rules.pages grown) (counted base rules.feeds))
 
 -- the rules with one for each page of their tables, by the plan that they make without these, or the first fault
 unfoldable pub expand : RulesView → PlanView → Result RulesView TagFault

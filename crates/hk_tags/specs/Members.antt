@@ -14,9 +14,12 @@ use Rattle.hk_tags.specs.TagTexts.{tags_in}
 abbrev pub is_match : Pattern → Ident → Bool
 is_match of id = matches of id.path id.version
 
+abbrev pub is_member : Lookups → Pattern → ℕ → Bool
+is_member plan of item = is_match of (plan.id item)
+
 -- the items that a pattern matches, in identifier order
 abbrev pub members : Lookups → Pattern → List ℕ
-members plan of = filter (λ item. is_match of (plan.id item)) (range_with_len 0 plan.count)
+members plan of = filter (is_member plan of) (range_with_len 0 plan.count)
 
 abbrev pub date_at : Lookups → ℕ → Option Moment
 date_at plan item = date_of (plan.meta item) (plan.id item).path

@@ -1,41 +1,36 @@
 -- The tags that a text lists, and how a tag is written in a path.
-use Rattle.std.specs.Prelude.{ℕ, ◌+◌, ◌/◌, ◌%◌, Bool, true, false, not, ◌||◌, ◌==◌, nat_lt, List, [], ◌∷◌, map, reverse, filter, flat_map, if◌then◌else◌}
+use Rattle.std.specs.Prelude.{ℕ, ◌+◌, ◌-◌, ◌/◌, ◌%◌, Bool, ◌||◌, ◌==◌, nat_lt, List, [], ◌∷◌, length, take, drop, if◌then◌else◌}
+use Rattle.std.specs.List.{flat_map, prefix_len, suffix_len, slice_split}
 use Rattle.hk_base.specs.Bytes.{Bytes}
 use Rattle.hk_forms.specs.Names.{is_name_byte}
 
 -- ---- tags
 
-abbrev pub with_front : ℕ → List Bytes → List Bytes
-with_front b [] = (b ∷ []) ∷ []
-with_front b (part ∷ parts) = (b ∷ part) ∷ parts
-
 -- the parts of a text between its commas
 abbrev pub parts : Bytes → List Bytes
-parts [] = [] ∷ []
-parts (b ∷ bs) = if b == 44 then [] ∷ parts bs else with_front b (parts bs)
+parts text = slice_split (λ b. b == 44) text
 
 -- a space, a tab, an LF or a CR
 abbrev pub is_blank : ℕ → Bool
 is_blank b = (b == 32 || b == 9) || (b == 10 || b == 13)
 
 abbrev pub from_front : Bytes → Bytes
-from_front [] = []
-from_front (b ∷ bs) = if is_blank b then from_front bs else b ∷ bs
+from_front text = drop (prefix_len is_blank text) text
 
 abbrev pub without_end : Bytes → Bytes
-without_end text = reverse (from_front (reverse text))
+without_end text = take (length text - suffix_len is_blank text) text
 
 -- a text without the blanks at its ends
 abbrev pub trimmed : Bytes → Bytes
 trimmed text = without_end (from_front text)
 
-abbrev pub has_bytes : Bytes → Bool
-has_bytes [] = false
-has_bytes (b ∷ bs) = true
+-- a part without the blanks at its ends is a tag, unless nothing is left
+abbrev pub tag_of : Bytes → List Bytes
+tag_of part = if length (trimmed part) == 0 then [] else trimmed part ∷ []
 
--- the tags that a text lists: the parts between commas, without blanks at their ends and without those of no bytes
+-- the tags that a text lists, those of its parts in turn
 unfoldable pub tags_in : Bytes → List Bytes
-tags_in text = filter has_bytes (map trimmed (parts text))
+tags_in text = flat_map tag_of (parts text)
 
 -- ---- in a path
 

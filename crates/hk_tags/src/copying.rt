@@ -2,7 +2,7 @@
 ghost use Rattle.std.specs.Prelude.{◌≡◌, ◌++◌, IfOk, OnOk};
 ghost use Rattle.hk_chain.specs.declared.context.Field.TheVariants as fields;
 
-use hk_base::{Identifier, NoMemory, Refusal, Text};
+use hk_base::{Identifier, NoMemory, Text};
 use hk_chain::{Chain, Context, ContextNo, Field, Order, PatternNo, Step};
 use hk_pattern::{Boxed, Glob, Items, Pattern};
 use hk_route::Route;
@@ -29,8 +29,8 @@ fn copy_glob(alloc: Global, glob: &Glob) -> Result<Glob, NoMemory>
 {
     match Glob::read(alloc, glob.text()) {
         Ok(glob) => Ok(glob),
-        Err(Refusal::Fault(_)) => unreachable!(),
-        Err(Refusal::NoMemory) => Err(NoMemory),
+        // the text of a glob is never refused
+        Err(_) => Err(NoMemory),
     }
 }
 
@@ -232,12 +232,18 @@ pub(crate) fn copy_contexts(alloc: Global, contexts: &[Context]) -> Result<Vec<C
 {
     let mut copies = Vec::with_capacity(alloc, contexts.len())?;
     for context in contexts {
-        let name = copy_text(alloc, &context.name)?;
-        let mut fields = Vec::with_capacity(alloc, context.fields.len())?;
-        push_fields(alloc, &mut fields, &context.fields)?;
-        copies.push(Context { name, fields })?;
+        copies.push(copy_context(alloc, context)?)?;
     }
     Ok(copies)
+}
+
+fn copy_context(alloc: Global, context: &Context) -> Result<Context, NoMemory>
+    ensures { IfOk result (λ c. c ≡ context.now) }
+{
+    let name = copy_text(alloc, &context.name)?;
+    let mut fields = Vec::with_capacity(alloc, context.fields.len())?;
+    push_fields(alloc, &mut fields, &context.fields)?;
+    Ok(Context { name, fields })
 }
 
 pub(crate) fn copy_rules(alloc: Global, rules: &[Rule]) -> Result<Vec<Rule>, NoMemory>

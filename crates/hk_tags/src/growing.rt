@@ -1,5 +1,5 @@
 // Rules with a page more.
-ghost use Rattle.std.specs.Prelude.{◌≡◌, ◌<◌, ◌++◌, IfOk, codes, length};
+ghost use Rattle.std.specs.Prelude.{◌≡◌, ◌<◌, ◌++◌, IfOk, OnOk, codes, length, map};
 ghost use Rattle.std.specs.List.{AllByRecursion};
 ghost use Rattle.hk_rules.specs.Plan.{lookups};
 ghost use Rattle.hk_tags.specs.Growing as spec;
@@ -92,7 +92,7 @@ pub(crate) fn with_page(
         mut contexts,
         pool,
     } = growing;
-    let ids = ids_of(alloc, base, &page.members)?;
+    let ids = ids_of(alloc, base, page.members.as_slice())?;
     let (pattern, pool) = pool.number(alloc, Pattern::Ids(ids))?;
     let context = page_context(alloc, &contexts, making, page, pattern)?;
     let number = number_of(contexts.len())?;
@@ -142,11 +142,18 @@ fn page_context(
     let name = page_name(alloc, behind.name.as_slice(), path.as_slice())?;
     let mut fields = Vec::new(alloc);
     fields.push(posts(alloc, making, pattern)?)?;
+    push_consts(&mut fields, own)?;
+    push_fields(alloc, &mut fields, &behind.fields)?;
+    Ok(Context { name, fields })
+}
+
+fn push_consts(fields: &mut Vec<Field>, own: Vec<(Text, Text)>) -> Result<(), NoMemory>
+    ensures { OnOk result (fields.new.items ≡ fields.old.items ++ map spec.const_field own.items) }
+{
     for (key, text) in own {
         fields.push(Field::Const(key, text))?;
     }
-    push_fields(alloc, &mut fields, &behind.fields)?;
-    Ok(Context { name, fields })
+    Ok(())
 }
 
 fn page_name(alloc: Global, name: &[u8], path: &[u8]) -> Result<Text, NoMemory>
@@ -185,17 +192,25 @@ fn page_rule(
     let mut ids = Items::new(alloc);
     ids.push(id)?;
     let route = copy_optional_route(alloc, making.route)?;
-    let mut steps = Vec::with_capacity(alloc, making.chain.steps.len())?;
-    for step in &making.chain.steps {
-        let step = copy_step(alloc, step)?;
-        steps.push(step_in(making.context, context, step))?;
-    }
+    let chain = chain_in(alloc, making.chain, making.context, context)?;
     Ok(Rule {
         source: RuleSource::Create(ids),
         version: None,
         route,
-        chain: Chain { steps },
+        chain,
     })
+}
+
+/// The same steps, with the new context in the place of the old one.
+fn chain_in(alloc: Global, chain: &Chain, old: ContextNo, new: ContextNo) -> Result<Chain, NoMemory>
+    ensures { IfOk result (λ c. c ≡ map (spec.step_in old new) chain.now) }
+{
+    let mut steps = Vec::with_capacity(alloc, chain.steps.len())?;
+    for step in &chain.steps {
+        let step = copy_step(alloc, step)?;
+        steps.push(step_in(old, new, step))?;
+    }
+    Ok(Chain { steps })
 }
 
 /// A step that names the new context in the place of the old one.

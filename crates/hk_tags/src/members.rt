@@ -1,5 +1,5 @@
 // The members of a table, and their dates and tags.
-ghost use Rattle.std.specs.Prelude.{◌≡◌, ◌<◌, IfOk, length};
+ghost use Rattle.std.specs.Prelude.{◌≡◌, ◌<◌, ◌++◌, [], ◌∷◌, if◌then◌else◌, IfOk, OnOk, length};
 ghost use Rattle.std.specs.List.{AllByRecursion};
 ghost use Rattle.hk_rules.specs.Plan.{lookups};
 ghost use Rattle.hk_tags.specs.Members as spec;
@@ -19,12 +19,24 @@ pub(crate) fn members(alloc: Global, plan: &Plan, of: &Pattern) -> Result<Vec<It
 {
     let mut members = Vec::new(alloc);
     for number in 0..plan.count() {
-        let item = ItemNo(number);
-        if of.matches(plan.id(item)) {
-            members.push(item)?;
-        }
+        add_member(&mut members, plan, of, ItemNo(number))?;
     }
     Ok(members)
+}
+
+fn add_member(
+    members: &mut Vec<ItemNo>,
+    plan: &Plan,
+    of: &Pattern,
+    item: ItemNo,
+) -> Result<(), NoMemory>
+    requires { item < length plan.now.items }
+    ensures { OnOk result (members.new.items ≡ members.old.items ++ (if spec.is_member (lookups plan.now) of.now item then item ∷ [] else [])) }
+{
+    if of.matches(plan.id(item)) {
+        members.push(item)?;
+    }
+    Ok(())
 }
 
 /// The date of an item.

@@ -1,13 +1,14 @@
 // A page of a table before it is a rule.
 use hk_base::Text;
 use hk_chain::ItemNo;
+use hk_pattern::Items;
 use std::marker::Model;
 
 /// A page's path, the items that it lists, in order, and the keys and texts of its own.
 #[derive(Drop)]
 pub(crate) struct TablePage {
     pub(crate) path: Text,
-    pub(crate) members: Vec<ItemNo>,
+    pub(crate) members: Items<ItemNo>,
     pub(crate) own: Vec<(Text, Text)>,
 }
 
@@ -16,5 +17,5 @@ impl Model for TablePage {
 
     ghost Value = { PageView };
 
-    ghost view = { λ p. record { path = p.path; members = p.members.items; own = p.own.items } };
+    ghost view = { λ p. record { path = p.path; members = p.members; own = p.own.items } };
 }

@@ -1,9 +1,12 @@
 // The pages of a table for tags.
-ghost use Rattle.std.specs.Prelude.{◌≡◌, ◌<◌, IfOk, length, map};
+ghost use Rattle.std.specs.Prelude.{◌≡◌, ◌<◌, IfOk, OnOk, fold, length, map};
+ghost use Rattle.std.specs.BTreeMap.{is_at};
+ghost use Rattle.std.specs.Cmp.Lexicographic.{slice_cmp};
 ghost use Rattle.std.specs.List.{AllByRecursion};
+ghost use Rattle.std.specs.List.Sorted.{IsStrictlySortedBy};
+ghost use Rattle.std.specs.Map.{keys_of, remove_entry};
+ghost use Rattle.std.specs.Ordering.{nat_cmp};
 ghost use Rattle.hk_rules.specs.Plan.{lookups};
-ghost use Rattle.hk_tags.specs.Grouping.{group_of};
-ghost use Rattle.hk_tags.specs.Listings.{ArePagesWithin};
 ghost use Rattle.hk_tags.specs.Pages as spec;
 
 use crate::members::{members, tags_at};
@@ -11,6 +14,7 @@ use crate::table_page::TablePage;
 use crate::tag_texts::push_slug;
 use hk_base::{NoMemory, Text};
 use hk_chain::ItemNo;
+use hk_pattern::Items;
 use hk_rules::{Plan, TagRule};
 use std::alloc::Global;
 use std::collections::BTreeMap;
@@ -23,12 +27,12 @@ pub(crate) fn tag_pages(
     plan: &Plan,
     table: &TagRule,
 ) -> Result<Vec<TablePage>, NoMemory>
-    ensures value { IfOk result (λ v. v.items ≡ spec.tag_pages (lookups plan.now) table.now) }
-    ensures within { IfOk result (λ v. ArePagesWithin (length plan.now.items) v.items) }
+    ensures { IfOk result (λ v. v.items ≡ spec.tag_pages (lookups plan.now) table.now) }
 {
     let members = members(alloc, plan, &table.of)?;
     let groups = grouped(alloc, plan, table.field.as_slice(), &members)?;
-    pages_of(alloc, table, groups)
+    let pages = pages_of(alloc, table, groups)?;
+    Ok(pages)
 }
 
 /// For each tag of the items those that have it. The items are to ascend.
@@ -37,9 +41,9 @@ fn grouped(
     plan: &Plan,
     field: &[u8],
     items: &[ItemNo],
-) -> Result<BTreeMap<Text, Vec<ItemNo>>, NoMemory>
+) -> Result<BTreeMap<Text, Items<ItemNo>>, NoMemory>
     requires { AllByRecursion (λ item. item < length plan.now.items) items.now }
-    ensures { IfOk result (λ g. map group_of g.entries ≡ spec.grouped (lookups plan.now) field.now items.now) }
+    ensures { IfOk result (λ g. g.entries ≡ spec.grouped (lookups plan.now) field.now items.now) }
 {
     let mut groups = BTreeMap::new(alloc);
     for item in items {
@@ -51,10 +55,12 @@ fn grouped(
 
 fn add_tags(
     alloc: Global,
-    groups: &mut BTreeMap<Text, Vec<ItemNo>>,
+    groups: &mut BTreeMap<Text, Items<ItemNo>>,
     tags: Vec<Text>,
     item: ItemNo,
-) -> Result<(), NoMemory> {
+) -> Result<(), NoMemory>
+    ensures { OnOk result (groups.new.entries ≡ fold (spec.with_tag item) groups.old.entries tags.items) }
+{
     for tag in tags {
         add_tag(alloc, groups, tag, item)?;
     }
@@ -64,18 +70,46 @@ fn add_tags(
 /// One more item with a tag, unless it is the last one already.
 fn add_tag(
     alloc: Global,
-    groups: &mut BTreeMap<Text, Vec<ItemNo>>,
+    groups: &mut BTreeMap<Text, Items<ItemNo>>,
     tag: Text,
     item: ItemNo,
-) -> Result<(), NoMemory> {
-    let group = groups.entry(tag)?.or_insert(Vec::new(alloc));
-    if !ends_with(group.as_slice(), item) {
-        group.push(item)?;
-    }
+) -> Result<(), NoMemory>
+    ensures { OnOk result (groups.new.entries ≡ spec.with_tag item groups.old.entries tag) }
+{
+    let group = taken(alloc, groups, &tag);
+    let group = with_last(group, item)?;
+    groups.insert(tag, group)?;
     Ok(())
 }
 
-fn ends_with(group: &[ItemNo], item: ItemNo) -> bool {
+/// The items of a tag, taken out.
+fn taken(alloc: Global, groups: &mut BTreeMap<Text, Items<ItemNo>>, tag: &Text) -> Items<ItemNo>
+    ensures group { result ≡ spec.group_at groups.old.entries tag.now }
+    ensures rest { groups.new.entries ≡ remove_entry (is_at (slice_cmp nat_cmp tag.now)) groups.old.entries }
+    ensures ordered { IsStrictlySortedBy (slice_cmp nat_cmp) (keys_of groups.old.entries) }
+{
+    // a map that was counted is known to be in order
+    let _count = groups.len();
+    match groups.remove(tag) {
+        Some(group) => group,
+        None => Items::new(alloc),
+    }
+}
+
+fn with_last(group: Items<ItemNo>, item: ItemNo) -> Result<Items<ItemNo>, NoMemory>
+    ensures { IfOk result (λ g. g ≡ spec.with_last group item) }
+{
+    if ends_with(group.as_slice(), item) {
+        return Ok(group);
+    }
+    let mut group = group;
+    group.push(item)?;
+    Ok(group)
+}
+
+fn ends_with(group: &[ItemNo], item: ItemNo) -> bool
+    ensures { result ≡ spec.ends_with group.now item }
+{
     match group.last() {
         Some(last) => *last == item,
         None => false,
@@ -85,9 +119,9 @@ fn ends_with(group: &[ItemNo], item: ItemNo) -> bool {
 fn pages_of(
     alloc: Global,
     table: &TagRule,
-    groups: BTreeMap<Text, Vec<ItemNo>>,
+    groups: BTreeMap<Text, Items<ItemNo>>,
 ) -> Result<Vec<TablePage>, NoMemory>
-    ensures { IfOk result (λ v. v.items ≡ map (spec.group_page table.now) (map group_of groups.entries)) }
+    ensures { IfOk result (λ v. v.items ≡ map (spec.group_page table.now) groups.entries) }
 {
     let mut pages = Vec::new(alloc);
     for (tag, members) in groups {
@@ -100,9 +134,9 @@ fn page_of(
     alloc: Global,
     table: &TagRule,
     tag: Text,
-    members: Vec<ItemNo>,
+    members: Items<ItemNo>,
 ) -> Result<TablePage, NoMemory>
-    ensures { IfOk result (λ p. p ≡ spec.group_page table.now (tag, members.items)) }
+    ensures { IfOk result (λ p. p ≡ spec.group_page table.now (tag, members)) }
 {
     let mut path = Vec::from_slice(alloc, table.prefix.as_slice())?;
     push_slug(&mut path, tag.as_slice())?;

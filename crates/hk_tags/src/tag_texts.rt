@@ -1,6 +1,6 @@
 // The tags that a text lists, and how a tag is written in a path.
 ghost use Rattle.std.specs.Prelude.{◌≡◌, ◌<◌, ◌++◌, IfOk, OnOk};
-ghost use Rattle.hk_forms.specs.Names.{is_name_byte};
+ghost use Rattle.hk_forms.specs.Names.{is_letter as letter, is_name_byte};
 ghost use Rattle.hk_tags.specs.TagTexts as spec;
 
 use hk_base::{NoMemory, Text};
@@ -13,12 +13,21 @@ pub(crate) fn tags_in(alloc: Global, text: &[u8]) -> Result<Vec<Text>, NoMemory>
 {
     let mut tags = Vec::new(alloc);
     for part in text.split(|byte| *byte == b',') {
-        let tag = trimmed(part);
-        if !tag.is_empty() {
-            tags.push(Text::from_slice(alloc, tag)?)?;
-        }
+        push_tag(alloc, &mut tags, part)?;
     }
     Ok(tags)
+}
+
+/// One more tag, where the part has more than blanks.
+fn push_tag(alloc: Global, tags: &mut Vec<Text>, part: &[u8]) -> Result<(), NoMemory>
+    ensures { OnOk result (tags.new.items ≡ tags.old.items ++ spec.tag_of part.now) }
+{
+    let tag = trimmed(part);
+    if tag.is_empty() {
+        return Ok(());
+    }
+    tags.push(Text::from_slice(alloc, tag)?)?;
+    Ok(())
 }
 
 /// The text without the blanks at its ends.
@@ -31,27 +40,21 @@ fn trimmed(text: &[u8]) -> &[u8]
 fn from_front(text: &[u8]) -> &[u8]
     ensures { result.now ≡ spec.from_front text.now }
 {
-    let mut rest = text;
-    while let Some((byte, after)) = rest.split_first() {
-        if !is_blank(*byte) {
-            return rest;
-        }
-        rest = after;
+    let mut start = 0;
+    while start < text.len() && is_blank(text[start]) {
+        start += 1;
     }
-    rest
+    &text[start..]
 }
 
 fn without_end(text: &[u8]) -> &[u8]
     ensures { result.now ≡ spec.without_end text.now }
 {
-    let mut rest = text;
-    while let Some((byte, before)) = rest.split_last() {
-        if !is_blank(*byte) {
-            return rest;
-        }
-        rest = before;
+    let mut end = text.len();
+    while end > 0 && is_blank(text[end - 1]) {
+        end -= 1;
     }
-    rest
+    &text[..end]
 }
 
 fn is_blank(byte: u8) -> bool
@@ -87,7 +90,13 @@ fn push_slug_byte(out: &mut Vec<u8>, byte: u8) -> Result<(), NoMemory>
 fn is_plain(byte: u8) -> bool
     ensures { result ≡ is_name_byte byte }
 {
-    byte.is_ascii_alphanumeric() || (byte == b'_' || byte == b'-')
+    (is_letter(byte) || (48 <= byte && byte <= 57)) || (byte == b'_' || byte == b'-')
+}
+
+fn is_letter(byte: u8) -> bool
+    ensures { result ≡ letter byte }
+{
+    (65 <= byte && byte <= 90) || (97 <= byte && byte <= 122)
 }
 
 fn hex_digit(digit: u8) -> u8
