@@ -1,9 +1,5 @@
 -- What the tables for tags, numbered pages and feeds share: what stands at their keys, or the first key that is at fault.
-<<<<<<< HEAD
 use Rattle.std.specs.Prelude.{ℕ, Bool, true, ◌||◌, nat_lt, List, [], Option, Some, None, option_and_then, Result, Ok, Err, codes, bytes_eq, if◌then◌else◌}
-=======
-use Rattle.std.specs.Prelude.{ℕ, Bool, true, ◌||◌, nat_lt, List, [], ◌∷◌, Option, Some, None, option_and_then, Result, Ok, Err, codes, bytes_eq, if◌then◌else◌}
->>>>>>> 5d4c5d84da122eb87a34b885186a59003125ed46
 use Rattle.toml.specs.Data.{Data, Members, get_member, as_str}
 use Rattle.hk_base.specs.Bytes.{Bytes}
 use Rattle.hk_chain.specs.declared.chain.Step.{Step}
