@@ -30,14 +30,21 @@ rules_plan rules files = of_plan (plan_of rules files)
 abbrev pub expanded : RulesView → PlanView → Result RulesView SiteFault
 expanded rules base = of_tables (expand rules base)
 
--- the plan of rules with one for each page of their tables, whose members are those of the plan without these
+-- the plan of rules with one for each page of their tables, by their plan without these
+abbrev pub plan_over : RulesView → List (Bytes × Bytes) → PlanView → Result PlanView SiteFault
+plan_over rules files base = after (expanded rules base) (λ all. rules_plan all files)
+
 abbrev pub expanded_plan : RulesView → List (Bytes × Bytes) → Result PlanView SiteFault
-expanded_plan rules files = after (rules_plan rules files) (λ base. after (expanded rules base) (λ all. rules_plan all files))
+expanded_plan rules files = after (rules_plan rules files) (plan_over rules files)
 
 -- why the feeds of a plan can't be made
 abbrev pub feeds_refusal : PlanView → Option SiteFault
 feeds_refusal plan = option_map Feeds (feeds_fault (lookups plan) plan.feeds)
 
--- that plan, where its feeds can be made; the first fault counts
+-- a plan, where its feeds can be made
+abbrev pub fed : PlanView → Result PlanView SiteFault
+fed plan = unless (feeds_refusal plan) (Ok plan)
+
+-- the plan of a site: that of its rules with a rule for each page of their tables; the first fault counts
 unfoldable pub site_plan : RulesView → List (Bytes × Bytes) → Result PlanView SiteFault
-site_plan rules files = after (expanded_plan rules files) (λ plan. unless (feeds_refusal plan) (Ok plan))
+site_plan rules files = after (expanded_plan rules files) fed

@@ -1,7 +1,6 @@
 // The plan of a site: that of its rules with a rule for each page of their tables.
 ghost use Rattle.std.specs.Prelude.{◌≡◌, [], IfOk};
 ghost use Rattle.hk_base.specs.Answers.{Answers};
-ghost use Rattle.hk_rules.specs.Outcomes.{Passes};
 ghost use Rattle.hk_rules_file.specs.Linked.{HasLinkedTables, IsLinked};
 ghost use Rattle.hk_build.specs.Planned.{IsPlanned};
 ghost use Rattle.hk_build.specs.SitePlan as spec;
@@ -32,13 +31,15 @@ pub fn plan_site(
     ensures value { Answers (spec.site_plan rules files.items) result }
     ensures planned { IfOk result (λ plan. IsPlanned plan) }
 {
-    let plan = if rules.tags.is_empty() && rules.pages.is_empty() {
-        unexpanded_plan(alloc, rules, files)?
+    let made = if rules.tags.is_empty() && rules.pages.is_empty() {
+        unexpanded_plan(alloc, rules, files)
     } else {
-        expanded_plan(alloc, &rules, files)?
+        expanded_plan(alloc, &rules, files)
     };
-    feeds_pass(alloc, &plan)?;
-    Ok(plan)
+    match made {
+        Ok(plan) => fed(alloc, plan),
+        Err(refusal) => Err(refusal),
+    }
 }
 
 /// The plan of rules as they stand.
@@ -86,9 +87,42 @@ fn expanded_plan(
     ensures value { Answers (spec.expanded_plan rules.now files.items) result }
     ensures planned { IfOk result (λ plan. IsPlanned plan) }
 {
-    let base = plan_of_rules(alloc, without_tables(alloc, rules)?, copied(alloc, &files)?)?;
-    let expanded = expanded_rules(alloc, rules, &base)?;
-    plan_of_rules(alloc, expanded, files)
+    match base_plan(alloc, rules, &files) {
+        Ok(base) => plan_over(alloc, rules, &base, files),
+        Err(refusal) => Err(refusal),
+    }
+}
+
+/// The plan of rules without their tables, on copies.
+fn base_plan(
+    alloc: Global,
+    rules: &Rules,
+    files: &[(Text, Text)],
+) -> Result<Plan, Refusal<SiteFault>>
+    requires { IsLinked rules.now }
+    ensures { Answers (spec.rules_plan rules.now files.now) result }
+{
+    let untabled = without_tables(alloc, rules)?;
+    let copies = copied(alloc, files)?;
+    plan_of_rules(alloc, untabled, copies)
+}
+
+/// The plan of rules with one for each page of their tables, by their plan without these.
+fn plan_over(
+    alloc: Global,
+    rules: &Rules,
+    base: &Plan,
+    files: Vec<(Text, Text)>,
+) -> Result<Plan, Refusal<SiteFault>>
+    requires linked { IsLinked rules.now }
+    requires tables { HasLinkedTables rules.now }
+    ensures value { Answers (spec.plan_over rules.now files.items base.now) result }
+    ensures planned { IfOk result (λ plan. IsPlanned plan) }
+{
+    match expanded_rules(alloc, rules, base) {
+        Ok(all) => plan_of_rules(alloc, all, files),
+        Err(refusal) => Err(refusal),
+    }
 }
 
 fn expanded_rules(alloc: Global, rules: &Rules, base: &Plan) -> Result<Rules, Refusal<SiteFault>>
@@ -104,12 +138,13 @@ fn expanded_rules(alloc: Global, rules: &Rules, base: &Plan) -> Result<Rules, Re
     }
 }
 
-/// Whether the feeds of a plan can be made.
-fn feeds_pass(alloc: Global, plan: &Plan) -> Result<(), Refusal<SiteFault>>
-    ensures { Passes (spec.feeds_refusal plan.now) result }
+/// A plan, where its feeds can be made.
+fn fed(alloc: Global, plan: Plan) -> Result<Plan, Refusal<SiteFault>>
+    ensures value { Answers (spec.fed plan) result }
+    ensures same { IfOk result (λ p. p ≡ plan) }
 {
-    match check_feeds(alloc, plan, plan.feeds()) {
-        Ok(()) => Ok(()),
+    match check_feeds(alloc, &plan, plan.feeds()) {
+        Ok(()) => Ok(plan),
         Err(Refusal::Fault(fault)) => Err(Refusal::Fault(SiteFault::Feeds(fault))),
         Err(Refusal::NoMemory) => Err(Refusal::NoMemory),
     }
