@@ -9,7 +9,6 @@ mod owner;
 mod pairs;
 mod plan;
 mod plan_fault;
-mod plan_sends;
 mod planning;
 mod recipe;
 mod resource;
