@@ -11,7 +11,7 @@ use Rattle.hk_tags.specs.Members.{members}
 use Rattle.hk_tags.specs.Pages.{PageView, count_of_pieces, piece_at, page_at, pages_of_items, pages_by, piece_pages}
 
 pages-whole : (table : PageRule) (items : List ℕ) (n a : ℕ) → flat_map listed (map (page_at table items) (range_with_len a n)) ≡ take (n * table.per) (drop (a * table.per) items)
-pages-whole table items zero a = refl
+pages-whole table items zero a = let e : 0 ≡ 0 * table.per = omega arith in ap (λ k. take k (drop (a * table.per) items)) e
 pages-whole table items (suc n) a =
     let next : a * table.per + table.per ≡ (a + 1) * table.per = omega arith in
     let more : table.per + n * table.per ≡ suc n * table.per = omega arith in

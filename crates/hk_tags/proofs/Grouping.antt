@@ -70,6 +70,15 @@ ends-tail x y ys item =
     let f : length (y ∷ ys) - 1 ≡ length ys = omega arith in
     ap (λ k. is_item item (slice_get (x ∷ y ∷ ys) k)) e ∙ sym (ap (λ k. is_item item (slice_get (y ∷ ys) k)) f)
 
+cases : (x item : ℕ) → x ≤ item → (x < item) ⊎ (x ≡ item)
+cases zero zero le = inr refl
+cases zero (suc item) le = inl (omega arith)
+cases (suc x) zero le = absurd (omega arith)
+cases (suc x) (suc item) le = elim (cases x item (omega arith)) [
+  | inl lt ↦ inl (omega arith)
+  | inr same ↦ inr (ap (λ k. suc k) same)
+]
+
 -- the last one isn't this, so all are below it
 last-below : (xs : List ℕ) (item : ℕ) → Up xs → AllByRecursion (λ x. x ≤ item) xs → ends_with xs item ≡ false → AllByRecursion (λ x. x < item) xs
 last-below [] item u h e = tt
@@ -79,15 +88,6 @@ last-below (x ∷ []) item u h e = (other x item h.0 e, tt)
     other x item le ne = elim (cases x item le) [
       | inl lt ↦ lt
       | inr same ↦ let yes : is_item item (Some x) ≡ true = eq-eqb x item same in let clash : true ≡ false = sym yes ∙ ne in cc
-    ]
-
-    cases : (x item : ℕ) → x ≤ item → (x < item) ⊎ (x ≡ item)
-    cases zero zero le = inr refl
-    cases zero (suc item) le = inl (omega arith)
-    cases (suc x) zero le = absurd (omega arith)
-    cases (suc x) (suc item) le = elim (cases x item (omega arith)) [
-      | inl lt ↦ inl (omega arith)
-      | inr same ↦ inr (ap (λ k. suc k) same)
     ]
 last-below (x ∷ y ∷ ys) item u h e =
     let rest = last-below (y ∷ ys) item u.1 h.1 (sym (ends-tail x y ys item) ∙ e) in
@@ -170,7 +170,7 @@ keys-back [] k v t h = elim h [
   | inl e ↦ inr e
   | inr r ↦ absurd r
 ]
-keys-back (e ∷ es) k v t = elim (R k e.0) as (λ o. IsOne (keys_of (match_ordering o ((k, v) ∷ e ∷ es) ((e.0, v) ∷ es) (e ∷ insert_entry R es k v))) t → IsOne (keys_of (e ∷ es)) t ⊎ (k ≡ t)) [
+keys-back (e ∷ es) k v t one = elim (R k e.0) as (λ o. IsOne (keys_of (match_ordering o ((k, v) ∷ e ∷ es) ((e.0, v) ∷ es) (e ∷ insert_entry R es k v))) t → IsOne (keys_of (e ∷ es)) t ⊎ (k ≡ t)) [
   | Less ↦ λ h. elim h [
     | inl same ↦ inr same
     | inr r ↦ inl r
@@ -183,7 +183,7 @@ keys-back (e ∷ es) k v t = elim (R k e.0) as (λ o. IsOne (keys_of (match_orde
       | inr b ↦ inr b
     ]
   ]
-]
+] one
 
 below-insert : (x : Bytes) (es : List Entry) (k : Bytes) (v : List ℕ) → R x k ≡ Less → AllByRecursion (λ y. R x y ≡ Less) (keys_of es) → AllByRecursion (λ y. R x y ≡ Less) (keys_of (insert_entry R es k v))
 below-insert x [] k v l h = (l, tt)

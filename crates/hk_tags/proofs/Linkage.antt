@@ -143,7 +143,7 @@ module _ (contexts patterns : ℕ) (base : Lookups) (making : MakingView) (table
           within = all-push (λ context. AllByRecursion (IsLinkedField (length (cs ++ c ∷ [])) q) context.fields) cs c
               (all-weaken (λ context. AllByRecursion (IsLinkedField n p) context.fields) (λ context. AllByRecursion (IsLinkedField (length (cs ++ c ∷ [])) q) context.fields)
               (λ context k. all-weaken (IsLinkedField n p) (IsLinkedField (length (cs ++ c ∷ [])) q) (field-more n (length (cs ++ c ∷ [])) p q le more) context.fields k) cs h.named.within) (
-                (below, (omega (arith, size, h.long, table.listed), tt)),
+                (below, omega (arith, size, h.long, table.listed), tt),
                 all-append (IsLinkedField (length (cs ++ c ∷ [])) q) (map const_field page.own) behind.fields (consts-linked (length (cs ++ c ∷ [])) q page.own)
                     (all-weaken (IsLinkedField n p) (IsLinkedField (length (cs ++ c ∷ [])) q) (field-more n (length (cs ++ c ∷ [])) p q le more) behind.fields fields),
               );

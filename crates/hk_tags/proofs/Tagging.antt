@@ -180,7 +180,7 @@ group-lists plan table most (g ∷ groups) h = (
   record {
     lists = λ item. (
       λ one. elim (h.0.holds item one) [
-        | inl no ↦ absurd no
+        | inl none ↦ absurd none
         | inr p ↦ (p.0, one-tag (tags_at plan table.field item) g.0 p.1)
       ],
       λ p. h.0.all item (inr (p.0, tag-one (tags_at plan table.field item) g.0 p.1)),
@@ -201,7 +201,7 @@ lists-by-tag plan table =
       ascend = found.1.ordered;
       own = λ tag. (
         λ one. let w = found.1.own tag one in elim w.1 [
-          | inl no ↦ absurd no
+          | inl none ↦ absurd none
           | inr p ↦ (w.0, p.0, one-tag (tags_at plan table.field w.0) tag p.1)
         ],
         λ w. found.1.covers tag w.0 (inr (w.1, tag-one (tags_at plan table.field w.0) tag w.2)),
