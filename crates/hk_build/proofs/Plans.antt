@@ -3,6 +3,7 @@ use denote.Hole.FixSend.{Crosses, both_send, both_sync}
 use denote.Struct.Field.{row_field}
 use denote.Struct.Tuple.{Tuple, tuple_type}
 use mathlib.Core.List.{[], ◌∷◌}
+use Rattle.std.proofs.Common.{rules}
 use denote.Param.Send.{IsSend, IsSync, view_send, view_sync}
 use denote.Param.SendFields.{declared_send, declared_sync, variants_send, variants_sync, as_row_send, as_row_sync}
 use Rattle.std.proofs.option.Option.TheSendSync as option
@@ -27,6 +28,8 @@ use Rattle.hk_route.specs.contracts.route.Route as route
 use Rattle.hk_route.specs.contracts.route.Route.TheKnot as routes
 use Rattle.hk_rules_file.specs.contracts.rules.Rule as rule
 use Rattle.hk_rules_file.specs.contracts.rules.RuleSource as source
+use Rattle.hk_rules_file.proofs.tables.FeedKind.TheSendSync as kind
+use Rattle.hk_rules_file.specs.contracts.tables.FeedRule as feed
 use Rattle.hk_rules.proofs.source_file.SourceFile.TheSendSync as file
 use Rattle.hk_rules.specs.contracts.owner.Owner as owner
 use Rattle.hk_rules.specs.contracts.plan.Plan as plan
@@ -81,20 +84,26 @@ source_sync = variants_sync source.enum ((pattern_sync, tt), ((items.the_sync Id
 rule_sync : IsSync rule.the_row
 rule_sync = declared_sync rule.the_type (source_sync, (option.the_sync Text.the_row text.the_sync, (option.the_sync route.the_row route_sync, (chain.the_sync, tt))))
 
+feed_send : IsSend feed.the_row
+feed_send = declared_send feed.the_type (kind.the_send, (text.the_send, (pattern_send, (text.the_send, (text.the_send, (text.the_send, (text.the_send, (option.the_send Text.the_row text.the_send, (text.the_send, (search rules, tt))))))))))
+
 owner_send : IsSend owner.the_row
 owner_send = declared_send owner.the_type (shared.the_send rule.the_row rule_send rule_sync, (option.the_send (Shared.the_row SourceFile.the_row) (shared.the_send SourceFile.the_row file.the_send file.the_sync), tt))
 
 inside_send : IsSend inside.the_row
-inside_send = declared_send inside.the_type (Vec-send (Tuple (Ident.the_row ∷ owner.the_row ∷ [])) (declared_send (tuple_type (Ident.the_row ∷ owner.the_row ∷ [])) (as_row_send (row_field _) ident.the_send, (as_row_send (row_field _) owner_send, tt))), (Vec-send _ split.the_send, (Vec-send _ (option.the_send Text.the_row text.the_send), (Vec-send _ context.the_send, (Vec-send _ pattern_send, (shared.the_send Layout.the_row layout.the_send layout.the_sync, tt))))))
+inside_send = declared_send inside.the_type (Vec-send (Tuple (Ident.the_row ∷ owner.the_row ∷ [])) (declared_send (tuple_type (Ident.the_row ∷ owner.the_row ∷ [])) (as_row_send (row_field _) ident.the_send, (as_row_send (row_field _) owner_send, tt))), (Vec-send _ split.the_send, (Vec-send _ (option.the_send Text.the_row text.the_send), (Vec-send _ context.the_send, (Vec-send _ pattern_send, (Vec-send _ feed_send, (shared.the_send Layout.the_row layout.the_send layout.the_sync, tt)))))))
 
 pub plan_send : IsSend plan.the_row
 plan_send = view_send _ _ _ _ _ inside_send
+
+feed_sync : IsSync feed.the_row
+feed_sync = declared_sync feed.the_type (kind.the_sync, (text.the_sync, (pattern_sync, (text.the_sync, (text.the_sync, (text.the_sync, (text.the_sync, (option.the_sync Text.the_row text.the_sync, (text.the_sync, (search rules, tt))))))))))
 
 owner_sync : IsSync owner.the_row
 owner_sync = declared_sync owner.the_type (shared.the_sync rule.the_row rule_send rule_sync, (option.the_sync (Shared.the_row SourceFile.the_row) (shared.the_sync SourceFile.the_row file.the_send file.the_sync), tt))
 
 inside_sync : IsSync inside.the_row
-inside_sync = declared_sync inside.the_type (Vec-sync (Tuple (Ident.the_row ∷ owner.the_row ∷ [])) (declared_sync (tuple_type (Ident.the_row ∷ owner.the_row ∷ [])) (as_row_sync (row_field _) ident.the_sync, (as_row_sync (row_field _) owner_sync, tt))), (Vec-sync _ split.the_sync, (Vec-sync _ (option.the_sync Text.the_row text.the_sync), (Vec-sync _ context.the_sync, (Vec-sync _ pattern_sync, (shared.the_sync Layout.the_row layout.the_send layout.the_sync, tt))))))
+inside_sync = declared_sync inside.the_type (Vec-sync (Tuple (Ident.the_row ∷ owner.the_row ∷ [])) (declared_sync (tuple_type (Ident.the_row ∷ owner.the_row ∷ [])) (as_row_sync (row_field _) ident.the_sync, (as_row_sync (row_field _) owner_sync, tt))), (Vec-sync _ split.the_sync, (Vec-sync _ (option.the_sync Text.the_row text.the_sync), (Vec-sync _ context.the_sync, (Vec-sync _ pattern_sync, (Vec-sync _ feed_sync, (shared.the_sync Layout.the_row layout.the_send layout.the_sync, tt)))))))
 
 pub plan_sync : IsSync plan.the_row
 plan_sync = view_sync _ _ _ _ _ inside_sync
