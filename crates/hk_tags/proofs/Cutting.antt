@@ -1,7 +1,8 @@
 -- The pieces of a list are the list again, and none is too long.
-use Rattle.std.proofs.Common.{◌≡◌, ◌∙◌, ℕ, zero, suc, ◌+◌, ◌-◌, ◌*◌, ◌/◌, ◌<◌, ◌≤◌, Bool, true, false, cond, eqb, List, [], ◌∷◌, ◌++◌, length, map, take, drop, drop-drop, take-add, take_all, Result, Ok, Err, refl, sym, ap, subst, arith}
+use Rattle.std.proofs.Common.{◌≡◌, ◌∙◌, ℕ, zero, suc, ◌+◌, ◌-◌, ◌*◌, ◌/◌, ◌<◌, ◌≤◌, Bool, true, false, cond, List, [], ◌∷◌, ◌++◌, length, map, take, drop, drop-drop, take-add, take_all, Result, Ok, Err, refl, sym, ap, subst, arith}
 use Rattle.std.specs.List.{AllByRecursion, flat_map, range_with_len}
 use Rattle.std.proofs.Math.Nat.{lt-div-mul-add}
+use Rattle.std.proofs.lemmas.Bool.{ne_eqb}
 use Rattle.hk_rules.specs.Plan.{Lookups}
 use Rattle.hk_rules_file.specs.Linked.{ArePagesLinked}
 use Rattle.hk_rules_file.specs.declared.tables.PageRule.{PageRule}
@@ -22,10 +23,12 @@ pages-whole table items (suc n) a =
 enough : (per count : ℕ) → 0 < per → count ≤ count_of_pieces per count * per
 enough per zero le = omega arith
 enough per (suc count) le =
-    let e : suc count - 1 ≡ count = omega arith in
     let h = lt-div-mul-add {a = count} {b = per} le in
     let f : (count / per + 1) * per ≡ count / per * per + per = omega arith in
-    rw e (omega (arith, h, f))
+    let few : suc count ≤ (count / per + 1) * per = omega (arith, h, f) in
+    let e : suc count - 1 ≡ count = omega arith in
+    let some : count_of_pieces per (suc count) ≡ count / per + 1 = ap (λ b. cond b 1 ((suc count - 1) / per + 1)) (ne_eqb (suc count) 0 (λ none. omega (arith, none))) ∙ ap (λ k. k / per + 1) e in
+    subst (λ pieces. suc count ≤ pieces * per) (sym some) few
 
 all-short : (table : PageRule) (items : List ℕ) (n a : ℕ) → AllByRecursion (λ page. length page.members ≤ table.per) (map (page_at table items) (range_with_len a n))
 all-short table items zero a = tt

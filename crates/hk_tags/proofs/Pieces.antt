@@ -15,10 +15,10 @@ drop-turn per items rest new place was more =
     more ∙ (ap (drop per) was ∙ (drop-drop per (place * per) items ∙ ap (λ k. drop k items) e))
 
 -- one more page
-pub page-turn : (table : PageRule) (items : List ℕ) (place : ℕ) (old new : List PageView) (page : PageView) (count : ℕ) (members : List ℕ) (per : ℕ) (rest : List ℕ)
+pub page-turn : (table : PageRule) (items : List ℕ) (place : ℕ) (old new : List PageView) (page : PageView) (count : ℕ) (members rest : List ℕ)
     → count ≡ count_of_pieces table.per (length items) → rest ≡ drop (place * table.per) items → members ≡ take table.per rest → page ≡ piece_page table count (place + 1) members
     → old ≡ map (page_at table items) (range_with_len 0 place) → new ≡ old ++ page ∷ [] → new ≡ map (page_at table items) (range_with_len 0 (place + 1))
-page-turn table items place old new page count members per rest counted left front is so_far more =
+page-turn table items place old new page count members rest counted left front is so_far more =
     let here : page ≡ page_at table items place =
     is ∙ (ap (λ c. piece_page table c (place + 1) members) counted ∙ ap (piece_page table (count_of_pieces table.per (length items)) (place + 1)) (front ∙ ap (take table.per) left)) in
     more ∙ (ap (λ l. l ++ page ∷ []) so_far ∙ (ap (λ p. map (page_at table items) (range_with_len 0 place) ++ p ∷ []) here ∙ sym (map-range_with_len_more (page_at table items) 0 place place (zero-add place))))
