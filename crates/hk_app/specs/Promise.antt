@@ -6,7 +6,7 @@ use Rattle.hk_build.specs.Build.{compiled, endings, image, is_empty, pages, repo
 use Rattle.hk_build.specs.Linked.{all_lead, link_lines}
 use Rattle.hk_build.specs.Pages.{pages_at}
 use Rattle.hk_build.specs.Planned.{IsPlanned}
-use Rattle.hk_build.specs.SitePlan.{SiteFault}
+use Rattle.hk_build.specs.declared.site_fault.SiteFault.{SiteFault}
 use Rattle.hk_build.specs.declared.site_fault.SiteFault.TheVariants.{Plan, Tags, Feeds}
 use Rattle.hk_chain.specs.declared.page.Page.{Page}
 use Rattle.hk_fix.specs.declared.event.Event.{Event}

@@ -3,7 +3,8 @@ use Rattle.std.specs.Prelude.{Bool, ◌||◌, not, List, [], ◌∷◌, Option, 
 use Rattle.std.specs.List.{filter}
 use Rattle.std.specs.FinMap.{entries}
 use Rattle.hk_base.specs.Bytes.{Bytes, Files}
-use Rattle.hk_build.specs.SitePlan.{SiteFault, site_plan}
+use Rattle.hk_build.specs.SitePlan.{site_plan}
+use Rattle.hk_build.specs.declared.site_fault.SiteFault.{SiteFault}
 use Rattle.hk_rules.specs.RulesFault.{RulesFault}
 use Rattle.hk_rules.specs.Rules.{RulesView}
 use Rattle.hk_rules.specs.RulesForm.{rules_of}
