@@ -17,6 +17,7 @@ use Rattle.hk_rules_file.specs.declared.tables.FeedRule.{FeedRule}
 use Rattle.hk_rules_file.specs.declared.tables.PageRule.{PageRule}
 use Rattle.hk_rules_file.specs.declared.tables.TagRule.{TagRule}
 use Rattle.hk_tags.specs.Growing.{MakingView, GrowingView, tags_making, pages_making, with_page}
+use Rattle.hk_tags.specs.NameOrder.{in_name_order}
 use Rattle.hk_tags.specs.Pages.{PageView, tag_pages, piece_pages}
 use Rattle.hk_tags.specs.Turns.{in_turn}
 use Rattle.hk_tags.specs.declared.tag_fault.TagFault.{TagFault}
@@ -77,7 +78,7 @@ unless_many many rules = if many then Err TooManyItems else Ok rules
 
 abbrev pub counted : Lookups → List FeedRule → GrownView → Result RulesView TagFault
 counted base feeds grown =
-    unless_many (nat_lt most_items (base.count + length grown.made)) (whole feeds grown.growing)
+    unless_many (nat_lt most_items (base.count + length grown.made)) (whole feeds (in_name_order grown.growing))
 
 -- the rules before any page
 abbrev pub start : RulesView → GrownView
