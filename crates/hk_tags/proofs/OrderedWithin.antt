@@ -2,7 +2,6 @@
 use Rattle.std.proofs.Common.{◌≡◌, ℕ, zero, suc, ◌+◌, ◌*◌, ◌<◌, true, false, cond, List, [], ◌∷◌, ◌++◌, length, map, take, drop, Option, Some, None, Result, Ok, Err, sym, subst}
 use Rattle.std.specs.Prelude.{reverse}
 use Rattle.std.specs.List.{AllByRecursion, range_with_len}
-use Rattle.std.specs.Ordering.{is_lt}
 use Rattle.std.proofs.lemmas.List.{reverse-append}
 use Rattle.hk_chain.specs.declared.context.Order.{Order}
 use Rattle.hk_chain.specs.declared.context.Order.TheVariants as orders
@@ -14,7 +13,7 @@ use Rattle.hk_tags.specs.Dates.{Dated, with_date, dated, is_earlier, by_date, it
 use Rattle.hk_tags.specs.Expanding.{dated_pages}
 use Rattle.hk_tags.specs.Listings.{ArePagesWithin}
 use Rattle.hk_tags.specs.Members.{is_member, members, date_at}
-use Rattle.hk_tags.specs.Pages.{PageView, page_at, piece_at, count_of_pieces, pages_of_items, pages_by, piece_pages}
+use Rattle.hk_tags.specs.Pages.{PageView, page_at, count_of_pieces, pages_of_items, pages_by, piece_pages}
 use Rattle.hk_tags.proofs.Filters.{filter-all}
 
 module _ (P : ℕ → Type 0) where

@@ -1,5 +1,5 @@
 -- Rules with a rule for each page of their tables.
-use Rattle.std.specs.Prelude.{◌≡◌, ℕ, ◌+◌, Bool, ◌||◌, nat_lt, is_some, List, [], ◌∷◌, length, Option, Some, None, Result, Ok, Err, if◌then◌else◌}
+use Rattle.std.specs.Prelude.{ℕ, ◌+◌, Bool, ◌||◌, nat_lt, is_some, List, [], length, None, Result, Ok, Err, if◌then◌else◌}
 use Rattle.std.specs.BTreeSet.{insert_key}
 use Rattle.std.specs.List.{list_any}
 use Rattle.std.specs.Ordering.{is_eq}
@@ -10,9 +10,6 @@ use Rattle.hk_rules.specs.Plan.{Lookups, lookups}
 use Rattle.hk_rules.specs.PlanView.{PlanView}
 use Rattle.hk_rules_file.specs.Rules.{RulesView}
 use Rattle.hk_rules_file.specs.TableForm.{required, and_then}
-use Rattle.hk_chain.specs.Context.{ContextView}
-use Rattle.hk_pattern.specs.declared.pattern.Pattern.{Pattern}
-use Rattle.hk_rules_file.specs.declared.rules.Rule.{Rule}
 use Rattle.hk_rules_file.specs.declared.tables.FeedRule.{FeedRule}
 use Rattle.hk_rules_file.specs.declared.tables.PageRule.{PageRule}
 use Rattle.hk_rules_file.specs.declared.tables.TagRule.{TagRule}

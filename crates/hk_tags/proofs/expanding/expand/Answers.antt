@@ -1,4 +1,3 @@
-use Rattle.std.proofs.Common.{Result}
 use Rattle.hk_rules.specs.Plan.{lookups}
 use Rattle.hk_tags.proofs.Cutting.{all-by-piece}
 use Rattle.hk_tags.proofs.Expansion.{linked-result, ordered-result}
