@@ -1,5 +1,5 @@
 -- The plan of a site: that of its rules with a rule for each page of their tables.
-use Rattle.std.specs.Prelude.{List, Option, option_map, Result, Ok, Err}
+use Rattle.std.specs.Prelude.{Bool, not, ◌||◌, ◌==◌, List, length, Option, option_map, Result, Ok, Err, if◌then◌else◌}
 use Rattle.hk_base.specs.Bytes.{Bytes}
 use Rattle.hk_feed.specs.FeedFaults.{feeds_fault}
 use Rattle.hk_rules.specs.Outcomes.{after, unless}
@@ -34,8 +34,16 @@ expanded rules base = of_tables (expand rules base)
 abbrev pub plan_over : RulesView → List (Bytes × Bytes) → PlanView → Result PlanView SiteFault
 plan_over rules files base = after (expanded rules base) (λ all. rules_plan all files)
 
+abbrev pub tables_plan : RulesView → List (Bytes × Bytes) → Result PlanView SiteFault
+tables_plan rules files = after (rules_plan rules files) (plan_over rules files)
+
+-- whether rules have tables for tags or numbered pages
+abbrev pub has_tables : RulesView → Bool
+has_tables rules = not (length rules.tags == 0) || not (length rules.pages == 0)
+
+-- the plan of rules with their tables, or as they stand where they have none
 abbrev pub expanded_plan : RulesView → List (Bytes × Bytes) → Result PlanView SiteFault
-expanded_plan rules files = after (rules_plan rules files) (plan_over rules files)
+expanded_plan rules files = if has_tables rules then tables_plan rules files else rules_plan rules files
 
 -- why the feeds of a plan can't be made
 abbrev pub feeds_refusal : PlanView → Option SiteFault

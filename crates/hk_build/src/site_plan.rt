@@ -1,5 +1,5 @@
 // The plan of a site: that of its rules with a rule for each page of their tables.
-ghost use Rattle.std.specs.Prelude.{◌≡◌, [], IfOk};
+ghost use Rattle.std.specs.Prelude.{◌≡◌, IfOk};
 ghost use Rattle.hk_base.specs.Answers.{Answers};
 ghost use Rattle.hk_rules_file.specs.Linked.{HasLinkedTables, IsLinked};
 ghost use Rattle.hk_build.specs.Planned.{IsPlanned};
@@ -31,12 +31,7 @@ pub fn plan_site(
     ensures value { Answers (spec.site_plan rules files.items) result }
     ensures planned { IfOk result (λ plan. IsPlanned plan) }
 {
-    let made = if rules.tags.is_empty() && rules.pages.is_empty() {
-        unexpanded_plan(alloc, rules, files)
-    } else {
-        expanded_plan(alloc, &rules, files)
-    };
-    match made {
+    match expanded_plan(alloc, rules, files) {
         Ok(plan) => fed(alloc, plan),
         Err(refusal) => Err(refusal),
     }
@@ -59,32 +54,39 @@ fn plan_of_rules(
     }
 }
 
-/// The plan of rules without tables.
-fn unexpanded_plan(
+/// The plan of rules with their tables, or as they stand where they have none.
+fn expanded_plan(
     alloc: Global,
     rules: Rules,
     files: Vec<(Text, Text)>,
 ) -> Result<Plan, Refusal<SiteFault>>
     requires linked { IsLinked rules }
-    requires tags { rules.tags ≡ [] }
-    requires pages { rules.pages ≡ [] }
+    requires tables { HasLinkedTables rules }
     ensures value { Answers (spec.expanded_plan rules files.items) result }
     ensures planned { IfOk result (λ plan. IsPlanned plan) }
 {
-    let plan = plan_of_rules(alloc, rules, files)?;
-    let _items = plan.count();
-    Ok(plan)
+    if has_tables(&rules) {
+        tables_plan(alloc, &rules, files)
+    } else {
+        plan_of_rules(alloc, rules, files)
+    }
+}
+
+fn has_tables(rules: &Rules) -> bool
+    ensures { result ≡ spec.has_tables rules.now }
+{
+    !rules.tags.is_empty() || !rules.pages.is_empty()
 }
 
 /// The plan of rules with one for each page of their tables.
-fn expanded_plan(
+fn tables_plan(
     alloc: Global,
     rules: &Rules,
     files: Vec<(Text, Text)>,
 ) -> Result<Plan, Refusal<SiteFault>>
     requires linked { IsLinked rules.now }
     requires tables { HasLinkedTables rules.now }
-    ensures value { Answers (spec.expanded_plan rules.now files.items) result }
+    ensures value { Answers (spec.tables_plan rules.now files.items) result }
     ensures planned { IfOk result (λ plan. IsPlanned plan) }
 {
     match base_plan(alloc, rules, &files) {

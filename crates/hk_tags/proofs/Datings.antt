@@ -1,5 +1,5 @@
 -- Items with their dates, one after another.
-use Rattle.std.proofs.Common.{◌≡◌, refl, sym, ap, ◌∙◌, ℕ, List, [], ◌∷◌, ◌++◌, append_assoc, Option, Some, Result, Ok, Err}
+use Rattle.std.proofs.Common.{◌≡◌, refl, sym, ap, ◌∙◌, ℕ, List, [], ◌∷◌, ◌++◌, append_assoc, Some, Result, Ok, Err}
 use Rattle.hk_meta.specs.declared.date.Moment.{Moment}
 use Rattle.hk_rules.specs.Plan.{Lookups}
 use Rattle.hk_tags.specs.Dates.{Dated, with_date, dated}

@@ -3,7 +3,10 @@ use Rattle.std.proofs.Common.{◌≡◌, ℕ, ◌<◌, ◌≤◌, Bool, true, fa
 use Rattle.std.specs.Prelude.{nat_lt, ◌+◌, IfOk}
 use Rattle.hk_base.specs.Answers.{Answers}
 use Rattle.hk_base.specs.declared.refusal.Refusal.{Refusal}
+use Rattle.std.specs.Cmp.Lexicographic.{slice_cmp}
 use Rattle.std.specs.List.{AllByRecursion}
+use Rattle.std.specs.List.Sorted.{IsStrictlySortedBy}
+use Rattle.std.specs.Ordering.{nat_cmp}
 use Rattle.hk_chain.specs.Context.{ContextView}
 use Rattle.hk_forms.specs.Names.{is_context_name}
 use Rattle.hk_rules.specs.Plan.{Lookups, lookups, no_context}
@@ -17,11 +20,14 @@ use Rattle.hk_rules_file.specs.declared.tables.TagRule.{TagRule}
 use Rattle.hk_rules_file.proofs.LinkedNumbers.{all-weaken}
 use Rattle.hk_tags.specs.Expanding.{GrownView, start, with_one, with_pages, with_tag_table, with_page_table, dated_pages, most_items, whole, unless_many, counted, expand_by, expand}
 use Rattle.hk_tags.specs.Growing.{MakingView, tags_making, pages_making}
+use Rattle.hk_tags.specs.NameOrder.{numbers_of, in_name_order}
 use Rattle.hk_tags.specs.Pages.{PageView, tag_pages, piece_pages}
 use Rattle.hk_tags.specs.Turns.{in_turn}
 use Rattle.hk_tags.specs.declared.tag_fault.TagFault.{TagFault}
 use Rattle.hk_tags.proofs.Linkage.{AreGrown, all-at, one-grown}
 use Rattle.hk_tags.proofs.Names.{IsKnown}
+use Rattle.hk_tags.proofs.Relinking.{relinked}
+use Rattle.hk_tags.proofs.Renumbering.{order-ascends}
 use Rattle.hk_tags.proofs.Turning.{went-on, stops, goes-on, turns-keep}
 
 unmapped : (cs : List ContextView) → AllByRecursion (λ name. is_context_name name ≡ true) (context_names cs) → AllByRecursion (λ (c : ContextView). is_context_name c.name ≡ true) cs
@@ -60,16 +66,42 @@ within-count : (many : Bool) (rules r : RulesView) → unless_many many rules �
 within-count true rules r e = cc
 within-count false rules r e = cc
 
-expand_by-linked : (base : Lookups) (rules r : RulesView) → IsLinked rules → HasLinkedTables rules → expand_by base rules ≡ Ok r → IsLinked r
-expand_by-linked base rules r linked tables e =
+-- what rules with pages are made of
+record IsExpanded (rules r : RulesView) (grown : GrownView) : Type 0 where
+  pub grows : AreGrown (length rules.contexts) (length rules.patterns) grown
+  pub is : whole rules.feeds (in_name_order grown.growing) ≡ r
+
+expand_by-grown : (base : Lookups) (rules r : RulesView) → IsLinked rules → HasLinkedTables rules → expand_by base rules ≡ Ok r → (grown : GrownView) × IsExpanded rules r grown
+expand_by-grown base rules r linked tables e =
     let c = length rules.contexts in
     let p = length rules.patterns in
     let w = went-on (in_turn (with_tag_table base) rules.tags (start rules)) (λ grown. and_then (in_turn (with_page_table base) rules.pages grown) (counted base rules.feeds)) r e in
     let v = went-on (in_turn (with_page_table base) rules.pages w.0) (counted base rules.feeds) r w.1.1 in
     let tagged = turns-keep (with_tag_table base) (AreGrown c p) (AreTagsLinked c p) (tag_table-grown c p base) rules.tags (start rules) w.0 (start-grown rules linked tables) tables.tags w.1.0 in
     let paged = turns-keep (with_page_table base) (AreGrown c p) (ArePagesLinked c p) (page_table-grown c p base) rules.pages w.0 v.0 tagged tables.pages v.1.0 in
-    subst IsLinked (within-count (nat_lt most_items (base.count + length v.0.made)) (whole rules.feeds v.0.growing) r v.1.1)
-    (record { chains = paged.chains; named = paged.named; routes = paged.routes })
+    (v.0, record { grows = paged; is = within-count (nat_lt most_items (base.count + length v.0.made)) (whole rules.feeds (in_name_order v.0.growing)) r v.1.1 })
+
+expand_by-linked : (base : Lookups) (rules r : RulesView) → IsLinked rules → HasLinkedTables rules → expand_by base rules ≡ Ok r → IsLinked r
+expand_by-linked base rules r linked tables e =
+    let g = expand_by-grown base rules r linked tables e in
+    subst IsLinked g.1.is (relinked rules.feeds g.0.growing g.1.grows.chains g.1.grows.named g.1.grows.routes)
+
+abbrev HasOrder : RulesView → Type 0
+HasOrder r = IsStrictlySortedBy (slice_cmp nat_cmp) (context_names r.contexts)
+
+expand_by-ascends : (base : Lookups) (rules r : RulesView) → IsLinked rules → HasLinkedTables rules → expand_by base rules ≡ Ok r → HasOrder r
+unfolding in_name_order
+expand_by-ascends base rules r linked tables e =
+    let g = expand_by-grown base rules r linked tables e in
+    subst HasOrder g.1.is (order-ascends (numbers_of g.0.growing.contexts) g.0.growing.contexts g.1.grows.named.names)
+
+expand-ascends : (rules : RulesView) (base : PlanView) (r : RulesView) → IsLinked rules → HasLinkedTables rules → expand rules base ≡ Ok r → HasOrder r
+unfolding expand
+expand-ascends rules base r linked tables e = expand_by-ascends (lookups base) rules r linked tables e
+
+pub ordered-result : (rules : RulesView) (base : PlanView) (r : Result RulesView (Refusal TagFault)) → IsLinked rules → HasLinkedTables rules → Answers (expand rules base) r → IfOk r HasOrder
+ordered-result rules base (Ok v) linked tables a = expand-ascends rules base v linked tables a
+ordered-result rules base (Err e) linked tables a = tt
 
 pub expand-linked : (rules : RulesView) (base : PlanView) (r : RulesView) → IsLinked rules → HasLinkedTables rules → expand rules base ≡ Ok r → IsLinked r
 unfolding expand

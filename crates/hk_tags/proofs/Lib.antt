@@ -10,6 +10,8 @@ pub mod OrderedWithin
 pub mod Pieces
 pub mod Pooling
 pub mod Regrouping
+pub mod Relinking
+pub mod Renumbering
 pub mod Sorting
 pub mod Tagging
 pub mod Turning

@@ -1,32 +1,28 @@
 -- The rules that pages make are linked, as those are that they are made of.
-use Rattle.std.proofs.Common.{◌≡◌, ◌∙◌, ℕ, zero, suc, ◌+◌, ◌<◌, ◌≤◌, Bool, true, false, cond, List, [], ◌∷◌, ◌++◌, length, map, get_or, Option, Some, None, Result, Ok, Err, refl, sym, ap, subst, arith, length-append, inl}
-use Rattle.std.specs.Prelude.{bytes_eq, codes, filter_map}
+use Rattle.std.proofs.Common.{◌≡◌, ◌∙◌, ℕ, zero, suc, ◌+◌, ◌<◌, ◌≤◌, Bool, true, false, cond, List, [], ◌∷◌, ◌++◌, length, map, get_or, Result, Ok, refl, sym, ap, subst, arith, length-append}
+use Rattle.std.specs.Prelude.{bytes_eq}
 use Rattle.std.specs.BTreeSet.{insert_key}
 use Rattle.std.specs.List.{AllByRecursion, IsDistinct, cons_option, list_any}
 use Rattle.std.proofs.lemmas.List.{map-append, length-map, get_or_append_left}
 use Rattle.hk_base.specs.Bytes.{Bytes}
-use Rattle.hk_base.specs.Identifier.{Ident, ident_cmp}
-use Rattle.hk_chain.specs.Context.{ContextView}
+use Rattle.hk_base.specs.Identifier.{ident_cmp}
 use Rattle.hk_chain.specs.declared.chain.Step.{Step}
 use Rattle.hk_chain.specs.declared.chain.Step.TheVariants.{Body, Str, Copy, TemplateBody, Make, Load, Concat, Apply, SelfApply, Save, Relativize}
-use Rattle.hk_chain.specs.declared.context.Field.{Field}
 use Rattle.hk_forms.specs.Names.{is_context_name, is_snapshot_name}
 use Rattle.hk_pattern.specs.declared.pattern.Pattern.{Pattern, Ids}
 use Rattle.hk_rules.specs.Plan.{Lookups, no_context}
-use Rattle.hk_rules_file.specs.Linked.{IsStepWithin, IsLinkedField, IsLinkedChain, IsLinkedTable, AreLinked, IsLinked, IsRouted, context_names, name_of}
+use Rattle.hk_rules_file.specs.Linked.{IsStepWithin, IsLinkedField, IsLinkedChain, IsLinkedTable, AreLinked, IsRouted, context_names, name_of}
 use Rattle.hk_rules_file.specs.Numbering.{numbered, texts_of}
 use Rattle.hk_rules_file.specs.Saves.{saved, saves}
-use Rattle.hk_rules_file.specs.TableForm.{and_then}
-use Rattle.hk_rules_file.specs.declared.rules.Rule.{Rule}
 use Rattle.hk_rules_file.proofs.LinkedFields.{field-more}
 use Rattle.hk_rules_file.proofs.LinkedNumbers.{all-push, all-append, all-weaken, distinct-push, numbered-grown, numbered-below}
 use Rattle.hk_rules_file.proofs.LinkedSteps.{within-more}
 use Rattle.hk_steps.specs.StepForm.{final_name}
 use Rattle.hk_tags.specs.Expanding.{GrownView, is_ident, page_ident, grown_by, with_one}
-use Rattle.hk_tags.specs.Growing.{MakingView, GrowingView, in_place, step_in, const_field, context_at, posts, page_context, page_rule, ids_of}
+use Rattle.hk_tags.specs.Growing.{MakingView, step_in, const_field, context_at, page_context, page_rule, ids_of}
 use Rattle.hk_tags.specs.Pages.{PageView}
 use Rattle.hk_tags.specs.declared.tag_fault.TagFault.{TagFault}
-use Rattle.hk_tags.proofs.Names.{plain_ident, IsKnown, IsPageIdent, page_ident-of, known-differs, known-more, known-new}
+use Rattle.hk_tags.proofs.Names.{plain_ident, IsKnown, page_ident-of, known-differs, known-more, known-new}
 use Rattle.hk_tags.proofs.Turning.{went-on, same-ok}
 
 -- ---- the chain of a page

@@ -1,9 +1,9 @@
 -- The names of the contexts of pages differ from all others.
-use Rattle.std.proofs.Common.{◌≡◌, ◌∙◌, Bool, true, false, List, [], ◌∷◌, ◌++◌, Option, Some, None, Result, Ok, Err, refl, sym, ap, subst, inl, inr}
+use Rattle.std.proofs.Common.{◌≡◌, ◌∙◌, Bool, true, false, List, [], ◌∷◌, ◌++◌, Option, Some, None, Ok, refl, sym, ap, subst, inl, inr}
 use Rattle.std.specs.Prelude.{◌||◌, ◌&&◌, ◌⊎◌, bytes_eq, codes, is_some, length, nat_le}
 use Rattle.std.specs.BTreeSet.{insert_key}
 use Rattle.std.specs.Cmp.{tied_itself}
-use Rattle.std.specs.List.{AllByRecursion, list_all, list_any}
+use Rattle.std.specs.List.{list_all, list_any}
 use Rattle.std.specs.Ordering.{is_eq, match_ordering}
 use Rattle.std.specs.declared.cmp.Ordering.TheVariants.{Less, Equal, Greater}
 use Rattle.hk_base.proofs.Both.{left-part, right-part, not-both}
@@ -17,7 +17,6 @@ use Rattle.hk_forms.specs.Names.{is_name_byte, is_context_name}
 use Rattle.hk_rules.specs.Plan.{Lookups}
 use Rattle.hk_rules_file.specs.TableForm.{required, and_then}
 use Rattle.hk_tags.specs.Expanding.{is_ident, is_taken, unless_taken, page_ident}
-use Rattle.hk_tags.specs.declared.tag_fault.TagFault.{TagFault}
 use Rattle.hk_tags.specs.declared.tag_fault.TagFault.TheVariants.{BadPath}
 
 abbrev pub plain_ident : Bytes → Ident

@@ -2,18 +2,18 @@
 use Rattle.std.proofs.Common.{◌≡◌, ℕ, zero, suc, ◌+◌, ◌*◌, ◌<◌, true, false, cond, List, [], ◌∷◌, ◌++◌, length, map, take, drop, Option, Some, None, Result, Ok, Err, sym, subst}
 use Rattle.std.specs.Prelude.{reverse}
 use Rattle.std.specs.List.{AllByRecursion, range_with_len}
-use Rattle.std.specs.Ordering.{is_lt}
 use Rattle.std.proofs.lemmas.List.{reverse-append}
 use Rattle.hk_chain.specs.declared.context.Order.{Order}
 use Rattle.hk_chain.specs.declared.context.Order.TheVariants as orders
 use Rattle.hk_meta.specs.declared.date.Moment.{Moment}
 use Rattle.hk_rules.specs.Plan.{Lookups}
 use Rattle.hk_rules_file.specs.declared.tables.PageRule.{PageRule}
-use Rattle.hk_tags.specs.Dates.{Dated, with_date, dated, moment_cmp, put_dated, by_date, item_in, chronological, reversed, ordered}
+use Rattle.hk_tags.specs.Sorting.{put_by}
+use Rattle.hk_tags.specs.Dates.{Dated, with_date, dated, is_earlier, by_date, item_in, chronological, reversed, ordered}
 use Rattle.hk_tags.specs.Expanding.{dated_pages}
 use Rattle.hk_tags.specs.Listings.{ArePagesWithin}
 use Rattle.hk_tags.specs.Members.{is_member, members, date_at}
-use Rattle.hk_tags.specs.Pages.{PageView, page_at, piece_at, count_of_pieces, pages_of_items, pages_by, piece_pages}
+use Rattle.hk_tags.specs.Pages.{PageView, page_at, count_of_pieces, pages_of_items, pages_by, piece_pages}
 use Rattle.hk_tags.proofs.Filters.{filter-all}
 
 module _ (P : ℕ → Type 0) where
@@ -38,9 +38,9 @@ module _ (P : ℕ → Type 0) where
   abbrev AllDated : List Dated → Type 0
   AllDated ds = AllByRecursion (λ (d : Dated). P d.item) ds
 
-  all-put : (d : Dated) (ds : List Dated) → P d.item → AllDated ds → AllDated (put_dated d ds)
+  all-put : (d : Dated) (ds : List Dated) → P d.item → AllDated ds → AllDated (put_by is_earlier d ds)
   all-put d [] p a = (p, tt)
-  all-put d (e ∷ ds) p a = elim (is_lt (moment_cmp e.date d.date)) as (λ b. AllDated (cond b (e ∷ put_dated d ds) (d ∷ e ∷ ds))) [
+  all-put d (e ∷ ds) p a = elim (is_earlier e d) as (λ b. AllDated (cond b (e ∷ put_by is_earlier d ds) (d ∷ e ∷ ds))) [
     | true ↦ (a.0, all-put d ds p a.1)
     | false ↦ (p, a)
   ]

@@ -1,12 +1,12 @@
 -- The pages of pieces, one after another.
-use Rattle.std.proofs.Common.{◌≡◌, refl, sym, ap, ◌∙◌, arith, ℕ, ◌+◌, ◌-◌, ◌*◌, ◌<◌, cond, List, [], ◌∷◌, ◌++◌, length, map, take, drop, drop-drop, zero-add}
+use Rattle.std.proofs.Common.{◌≡◌, sym, ap, ◌∙◌, arith, ℕ, ◌+◌, ◌-◌, ◌*◌, ◌<◌, cond, List, [], ◌∷◌, ◌++◌, length, map, take, drop, drop-drop, zero-add}
 use Rattle.std.specs.Prelude.{codes}
 use Rattle.std.specs.List.{range_with_len}
 use Rattle.std.proofs.lemmas.Bool.{ne_eqb, lt-ltb}
 use Rattle.std.proofs.lemmas.List.FromFn.{map-range_with_len_more}
 use Rattle.hk_base.specs.Bytes.{Bytes}
 use Rattle.hk_rules_file.specs.declared.tables.PageRule.{PageRule}
-use Rattle.hk_tags.specs.Pages.{PageView, count_of_pieces, piece_at, piece_page, page_at, pages_of_items, piece_path, newer, older}
+use Rattle.hk_tags.specs.Pages.{PageView, count_of_pieces, piece_page, page_at, pages_of_items, piece_path, newer, older}
 
 -- the items that are left after one more piece
 pub drop-turn : (per : ℕ) (items rest new : List ℕ) (place : ℕ) → rest ≡ drop (place * per) items → new ≡ drop per rest → new ≡ drop ((place + 1) * per) items

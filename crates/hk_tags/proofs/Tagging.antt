@@ -1,22 +1,21 @@
 -- Each member of a table for tags stands on exactly the pages of its tags.
-use Rattle.std.proofs.Common.{◌≡◌, ◌∙◌, ℕ, zero, suc, ◌+◌, ◌<◌, ◌≤◌, Bool, true, false, cond, List, [], ◌∷◌, ◌++◌, length, map, filter, Option, Some, None, refl, sym, ap, subst, inl, inr, arith}
-use Rattle.std.specs.Prelude.{◌⊎◌, ◌||◌, ◌↔◌, bytes_eq, fold, unwrap_or}
+use Rattle.std.proofs.Common.{◌≡◌, ℕ, zero, suc, ◌+◌, ◌<◌, ◌≤◌, Bool, true, false, cond, List, [], ◌∷◌, ◌++◌, map, filter, Some, refl, sym, ap, subst, inl, inr, arith}
+use Rattle.std.specs.Prelude.{◌⊎◌, ◌||◌, bytes_eq, fold, unwrap_or}
 use Rattle.std.specs.BTreeMap.{insert_entry, is_at}
 use Rattle.std.specs.Cmp.{nat_cmp_is}
 use Rattle.std.specs.List.{AllByRecursion, list_any, range_with_len}
 use Rattle.std.specs.List.Sorted.{IsStrictlySortedBy}
 use Rattle.std.specs.Map.{keys_of, lookup}
-use Rattle.std.specs.Ordering.{nat_cmp, is_eq, match_ordering}
+use Rattle.std.specs.Ordering.{nat_cmp, match_ordering}
 use Rattle.std.specs.declared.cmp.Ordering.TheVariants.{Less, Equal, Greater}
 use Rattle.hk_base.specs.Bytes.{Bytes}
 use Rattle.hk_base.specs.Ties.{bytes-same, bytes-self}
-use Rattle.hk_chain.proofs.Spans.{range-all}
 use Rattle.hk_rules.specs.Plan.{Lookups}
 use Rattle.hk_rules_file.specs.declared.tables.TagRule.{TagRule}
-use Rattle.hk_tags.specs.Listings.{IsOne, IsPageOf, ArePagesOf, ListsByTag, ArePagesWithin}
-use Rattle.hk_tags.specs.Members.{is_member, members, tags_at, has_tag}
+use Rattle.hk_tags.specs.Listings.{IsOne, ArePagesOf, ListsByTag, ArePagesWithin}
+use Rattle.hk_tags.specs.Members.{is_member, members, tags_at}
 use Rattle.hk_tags.specs.Pages.{group_at, ends_with, with_last, with_tag, with_tags_of, grouped, group_page, tag_pages}
-use Rattle.hk_tags.proofs.Filters.{all-filter, filter-all}
+use Rattle.hk_tags.proofs.Filters.{filter-all}
 use Rattle.hk_tags.proofs.Grouping.{Entry, Up, IsGroup, AreGroups, More, same-groups, with_tag-groups}
 use Rattle.hk_tags.proofs.Regrouping.{R}
 

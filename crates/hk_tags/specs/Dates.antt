@@ -1,5 +1,5 @@
 -- The order of a table's members.
-use Rattle.std.specs.Prelude.{ℕ, cond, List, [], ◌∷◌, map, reverse, Option, Some, None, Result, Ok, Err}
+use Rattle.std.specs.Prelude.{ℕ, Bool, List, [], ◌∷◌, map, reverse, Option, Some, None, Result, Ok, Err}
 use Rattle.std.specs.Ordering.{int_cmp, nat_cmp, ordering_then, is_lt}
 use Rattle.std.specs.declared.cmp.Ordering.{Ordering}
 use Rattle.hk_chain.specs.declared.context.Order.{Order}
@@ -7,6 +7,7 @@ use Rattle.hk_chain.specs.declared.context.Order.TheVariants as orders
 use Rattle.hk_meta.specs.declared.date.Moment.{Moment}
 use Rattle.hk_rules.specs.Plan.{Lookups}
 use Rattle.hk_tags.specs.Members.{date_at}
+use Rattle.hk_tags.specs.Sorting.{sorted_by}
 -- an item with its date
 pub use Rattle.hk_tags.specs.declared.dates.Dated.{Dated}
 
@@ -26,15 +27,12 @@ moment_cmp a b =
     ordering_then (int_cmp a.year b.year) (ordering_then (nat_cmp a.month b.month) (ordering_then (nat_cmp a.day b.day)
     (ordering_then (nat_cmp a.hour b.hour) (ordering_then (nat_cmp a.minute b.minute) (nat_cmp a.second b.second)))))
 
--- one more in front of those of the same time, behind all earlier ones
-abbrev pub put_dated : Dated → List Dated → List Dated
-put_dated d [] = d ∷ []
-put_dated d (e ∷ es) = cond (is_lt (moment_cmp e.date d.date)) (e ∷ put_dated d es) (d ∷ e ∷ es)
+abbrev pub is_earlier : Dated → Dated → Bool
+is_earlier a b = is_lt (moment_cmp a.date b.date)
 
 -- in the order of time; those of the same time stay as they stand
 abbrev pub by_date : List Dated → List Dated
-by_date [] = []
-by_date (d ∷ ds) = put_dated d (by_date ds)
+by_date ds = sorted_by is_earlier ds
 
 abbrev pub item_in : Dated → ℕ
 item_in d = d.item

@@ -1,5 +1,5 @@
 -- Rules with a rule for each page of their tables.
-use Rattle.std.specs.Prelude.{◌≡◌, ℕ, ◌+◌, Bool, ◌||◌, nat_lt, is_some, List, [], ◌∷◌, length, Option, Some, None, Result, Ok, Err, if◌then◌else◌}
+use Rattle.std.specs.Prelude.{ℕ, ◌+◌, Bool, ◌||◌, nat_lt, is_some, List, [], length, None, Result, Ok, Err, if◌then◌else◌}
 use Rattle.std.specs.BTreeSet.{insert_key}
 use Rattle.std.specs.List.{list_any}
 use Rattle.std.specs.Ordering.{is_eq}
@@ -10,13 +10,11 @@ use Rattle.hk_rules.specs.Plan.{Lookups, lookups}
 use Rattle.hk_rules.specs.PlanView.{PlanView}
 use Rattle.hk_rules_file.specs.Rules.{RulesView}
 use Rattle.hk_rules_file.specs.TableForm.{required, and_then}
-use Rattle.hk_chain.specs.Context.{ContextView}
-use Rattle.hk_pattern.specs.declared.pattern.Pattern.{Pattern}
-use Rattle.hk_rules_file.specs.declared.rules.Rule.{Rule}
 use Rattle.hk_rules_file.specs.declared.tables.FeedRule.{FeedRule}
 use Rattle.hk_rules_file.specs.declared.tables.PageRule.{PageRule}
 use Rattle.hk_rules_file.specs.declared.tables.TagRule.{TagRule}
 use Rattle.hk_tags.specs.Growing.{MakingView, GrowingView, tags_making, pages_making, with_page}
+use Rattle.hk_tags.specs.NameOrder.{in_name_order}
 use Rattle.hk_tags.specs.Pages.{PageView, tag_pages, piece_pages}
 use Rattle.hk_tags.specs.Turns.{in_turn}
 use Rattle.hk_tags.specs.declared.tag_fault.TagFault.{TagFault}
@@ -77,7 +75,7 @@ unless_many many rules = if many then Err TooManyItems else Ok rules
 
 abbrev pub counted : Lookups → List FeedRule → GrownView → Result RulesView TagFault
 counted base feeds grown =
-    unless_many (nat_lt most_items (base.count + length grown.made)) (whole feeds grown.growing)
+    unless_many (nat_lt most_items (base.count + length grown.made)) (whole feeds (in_name_order grown.growing))
 
 -- the rules before any page
 abbrev pub start : RulesView → GrownView

@@ -4,8 +4,10 @@ pub mod Growing
 pub mod Listings
 pub mod Made
 pub mod Members
+pub mod NameOrder
 pub mod Ordered
 pub mod Pages
+pub mod Sorting
 pub mod TagTexts
 pub mod Untabled
 pub mod Turns

@@ -1,5 +1,4 @@
 -- What is kept while the pages of tables are made, as the definitions have it.
-use Rattle.std.specs.Prelude.{List}
 use Rattle.hk_tags.specs.Growing.{MakingView}
 use Rattle.hk_tags.specs.declared.growing.Making.{Making}
 

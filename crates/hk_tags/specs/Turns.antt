@@ -1,5 +1,5 @@
 -- Steps over a list, one after another, that may each refuse.
-use Rattle.std.specs.Prelude.{List, [], ◌∷◌, Result, Ok, Err}
+use Rattle.std.specs.Prelude.{List, [], ◌∷◌, Result, Ok}
 use Rattle.hk_rules_file.specs.TableForm.{and_then}
 
 -- what a step makes of what there is, with each element in turn, or the first fault

@@ -1,13 +1,16 @@
 // Rules with a rule for each page of their tables.
 ghost use Rattle.std.specs.Prelude.{◌≡◌, ◌<◌, ◌≤◌, IfOk, None, bytes_eq, length};
 ghost use Rattle.std.specs.List.{AllByRecursion, IsDistinct};
+ghost use Rattle.std.specs.List.Sorted.{IsStrictlySortedBy};
+ghost use Rattle.std.specs.Ordering.{nat_cmp};
+ghost use Rattle.std.specs.Cmp.Lexicographic.{slice_cmp};
 ghost use Rattle.std.specs.BTreeSet.{insert_key};
 ghost use Rattle.hk_base.specs.Answers.{Answers};
 ghost use Rattle.hk_base.specs.Identifier.{ident_cmp};
 ghost use Rattle.hk_forms.specs.IdForm.{ident_at};
 ghost use Rattle.hk_rules.specs.Outcomes.{AnswersList};
 ghost use Rattle.hk_rules.specs.Plan.{lookups};
-ghost use Rattle.hk_rules_file.specs.Linked.{HasLinkedTables, IsLinked};
+ghost use Rattle.hk_rules_file.specs.Linked.{HasLinkedTables, IsLinked, context_names};
 ghost use Rattle.hk_rules_file.specs.Numbering.{numbered, texts_of};
 ghost use Rattle.hk_rules_file.specs.TableForm.{required};
 ghost use Rattle.hk_tags.specs.Expanding as spec;
@@ -21,6 +24,7 @@ use crate::copying::{copy_contexts, copy_feeds, copy_pattern, copy_rules};
 use crate::dates::{Ordered, in_order};
 use crate::growing::{Growing, Making, with_page};
 use crate::members::members;
+use crate::name_order::in_name_order;
 use crate::piece_pages::pages_of_items;
 use crate::table_page::TablePage;
 use crate::tag_fault::TagFault;
@@ -57,7 +61,8 @@ impl Model for Grown {
 }
 
 /// The rules with one for each page of their tables, which creates it, and with its context; `base` is the plan that the
-/// rules make without these. The new contexts stand after all others. The tables are done then, and the feeds are handed on.
+/// rules make without these. All contexts stand in the order of their names then, and each number of one follows. The tables
+/// are done, and the feeds are handed on.
 ///
 /// A table for tags gives a page for each tag of its members, in the byte order of the tags, which lists the members that
 /// have it. A table for numbered pages puts its members into its order and cuts them into pieces, a page each; without
@@ -69,7 +74,8 @@ impl Model for Grown {
 /// pages together.
 ///
 /// Each item is tested once by each table; then linear in the members of the pages and the fields and steps of their
-/// tables, but for `n log n` comparisons of tags, dates, identifiers and patterns' texts.
+/// tables, but for `n log n` comparisons of tags, dates, identifiers and patterns' texts. The contexts are sorted once, and
+/// the numbers are changed in one pass over the rules and the contexts.
 pub fn expand(alloc: Global, rules: &Rules, base: &Plan) -> Result<Rules, Refusal<TagFault>>
     requires linked { IsLinked rules.now }
     requires tables { HasLinkedTables rules.now }
@@ -77,6 +83,7 @@ pub fn expand(alloc: Global, rules: &Rules, base: &Plan) -> Result<Rules, Refusa
     ensures tags { AllByRecursion (ListsByTag (lookups base.now)) rules.now.tags }
     ensures pieces { AllByRecursion (ListsByPiece (lookups base.now)) rules.now.pages }
     ensures linked { IfOk result (λ r. IsLinked r) }
+    ensures names { IfOk result (λ r. IsStrictlySortedBy (slice_cmp nat_cmp) (context_names r.contexts)) }
 {
     expanded(alloc, rules, base)
 }
@@ -107,6 +114,7 @@ fn counted(
     if made.len() > room {
         return Err(Refusal::Fault(TagFault::TooManyItems));
     }
+    let growing = in_name_order(alloc, growing)?;
     let feeds = copy_feeds(alloc, feeds)?;
     Ok(whole(alloc, growing, feeds))
 }

@@ -6,6 +6,7 @@ mod dates;
 mod expanding;
 mod growing;
 mod members;
+mod name_order;
 mod piece_pages;
 mod table_page;
 mod tag_fault;

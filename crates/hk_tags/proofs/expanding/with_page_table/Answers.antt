@@ -1,4 +1,3 @@
-use Rattle.std.proofs.Common.{length}
 use Rattle.hk_rules.specs.Plan.{lookups}
 use Rattle.hk_tags.proofs.OrderedWithin.{piece_pages-within}
 use Rattle.hk_tags.proofs.expanding.with_page_table.Goals as goal

@@ -1,7 +1,7 @@
-use Rattle.std.proofs.Common.{◌≡◌, ◌<◌, ◌≤◌, arith, sym, ap, ◌∙◌, subst, length}
+use Rattle.std.proofs.Common.{◌<◌, arith, sym, subst, length}
 use Rattle.std.specs.List.{AllByRecursion}
-use Rattle.hk_rules.specs.Plan.{Lookups, lookups}
-use Rattle.hk_tags.specs.Members.{is_member, members}
+use Rattle.hk_rules.specs.Plan.{lookups}
+use Rattle.hk_tags.specs.Members.{is_member}
 use Rattle.hk_tags.proofs.Filters.{filter-init, filter-step, filter-over, filter-all}
 use Rattle.hk_tags.proofs.members.members.Goals as goal
 

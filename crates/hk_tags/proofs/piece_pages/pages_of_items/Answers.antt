@@ -1,5 +1,4 @@
-use Rattle.std.proofs.Common.{◌≡◌, sym, ap, ◌∙◌, ◌*◌, arith, take, drop, length}
-use Rattle.hk_tags.specs.Pages.{count_of_pieces, piece_page, page_at}
+use Rattle.std.proofs.Common.{◌∙◌, arith}
 use Rattle.hk_tags.proofs.Pieces.{page-turn, drop-turn, pages-all}
 use Rattle.hk_tags.proofs.piece_pages.pages_of_items.Goals as goal
 

@@ -1,6 +1,6 @@
-use Rattle.std.proofs.Common.{◌∙◌, ap, sym}
+use Rattle.std.proofs.Common.{◌∙◌, ap}
 use Rattle.std.specs.BTreeMap.{insert_entry}
-use Rattle.hk_tags.specs.Pages.{with_last, group_at}
+use Rattle.hk_tags.specs.Pages.{with_last}
 use Rattle.hk_tags.proofs.Regrouping.{R, insert-removed}
 use Rattle.hk_tags.proofs.tag_pages.add_tag.Goals as goal
 
