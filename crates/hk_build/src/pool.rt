@@ -13,7 +13,7 @@ use hk_chain::Kept;
 use hk_outside::Gate;
 use hk_rules::Plan;
 use hk_store::Stored;
-use hk_workers::run_pool;
+use hk_workers::run_steal;
 use std::alloc::Global;
 use std::sync::Wait;
 use std::thread::Threads;
@@ -40,6 +40,6 @@ pub fn build_in_pool<R: Threads + Wait + Sync, G: Gate>(
     let _items = layout.get().items();
     let kept = Kept::none(alloc, layout.get())?;
     let maker = replays(alloc, plan, stored)?;
-    let results = run_pool(rt, alloc, layout.try_clone()?, kept, &maker, workers, gate)?;
+    let results = run_steal(rt, alloc, layout.try_clone()?, kept, &maker, workers, gate)?;
     ended(alloc, plan.get(), &maker, results, stored, bytes)
 }

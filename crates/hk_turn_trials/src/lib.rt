@@ -1,6 +1,8 @@
-//! Trials of the turn lock and of the ready queue, by callers with threads of their own.
+//! Trials of the turn lock, of the ready queue and of the deques, by callers with threads of their own.
 #![tactic(auto)]
 
+#[cfg(test)]
+mod decks;
 #[cfg(test)]
 mod orders;
 #[cfg(test)]

@@ -15,8 +15,8 @@ use std::thread::{Threads, yield_now};
 
 /// A number that is below the key.
 #[derive(Drop)]
-struct Small {
-    number: usize,
+pub(crate) struct Small {
+    pub(crate) number: usize,
 }
 
 impl Lawful<usize> for Small {
@@ -140,7 +140,7 @@ impl Trial {
     }
 }
 
-fn zeros(alloc: Global, count: usize) -> Result<Vec<AtomicU64>, NoMemory>
+pub(crate) fn zeros(alloc: Global, count: usize) -> Result<Vec<AtomicU64>, NoMemory>
     ensures { IfOk result (λ v. length v.items ≡ count) }
 {
     let mut all = Vec::with_capacity(alloc, count)?;
@@ -214,7 +214,7 @@ fn each_number_comes_out_once(rt: HostRuntime) -> Result<(), Fail> {
     Ok(())
 }
 
-fn number_of(small: Option<Small>) -> Option<usize> {
+pub(crate) fn number_of(small: Option<Small>) -> Option<usize> {
     small.map(|small| small.number)
 }
 

@@ -133,7 +133,7 @@ fn share<M: Compiler, R: Wait>(
 }
 
 /// Runs the compiler of a turn.
-fn run_turn<K: Maker, G: Gate, R: Wait>(
+pub fn run_turn<K: Maker, G: Gate, R: Wait>(
     rt: &R,
     alloc: Global,
     lock: &TurnLock<Board<K::M>, Key<K::M>>,

@@ -9,7 +9,7 @@ use hk_families::{SampleMaker, Sampler};
 use hk_fix::{Maker, Results};
 use hk_outside::OpenGate;
 use hk_sched::Turn;
-use hk_workers::{Desk, Pass, Ready, open_desk, run_pool, run_rounds, worker};
+use hk_workers::{Desk, Pass, Ready, open_desk, run_pool, run_rounds, run_steal, worker};
 use std::alloc::Global;
 use std::sync::Wait;
 use std::test::Fail;
@@ -17,8 +17,8 @@ use std::thread::Threads;
 
 /// A maker whose every compiler wants memory.
 #[derive(Drop)]
-struct Poor {
-    sample: SampleMaker,
+pub struct Poor {
+    pub sample: SampleMaker,
 }
 
 impl Maker for Poor {
@@ -37,14 +37,14 @@ impl Maker for Poor {
     ghost made = { λ _. tt };
 }
 
-fn three_items(alloc: Global) -> Result<Layout, NoMemory>
+pub fn three_items(alloc: Global) -> Result<Layout, NoMemory>
     ensures { IfOk result (λ l. l ≡ sample_shape) }
 {
     Layout::of_counts(alloc, &[1, 1, 1])
 }
 
 /// The item of a fresh turn.
-fn item_of(turn: &Turn<Sampler>) -> Option<u32> {
+pub fn item_of(turn: &Turn<Sampler>) -> Option<u32> {
     match turn {
         Turn::Fresh(item) => Some(item.0),
         Turn::Woken(_) => None,
@@ -64,15 +64,37 @@ fn look<R: Wait>(rt: &R, ready: &Ready<Sampler>, pass: &mut Pass<Sampler>) -> Op
 
 /// What two calls of a worker did, the first of which wants memory.
 #[derive(Drop)]
-struct Seen {
-    memory: [bool; 2],
-    enters_of_first: [u64; 3],
-    between: [Option<u32>; 2],
-    enters: [u64; 3],
-    leaves: [u64; 3],
-    is_empty: bool,
-    none_ready: bool,
-    first_out: Option<u32>,
+pub struct Seen {
+    pub memory: [bool; 2],
+    pub enters_of_first: [u64; 3],
+    /// The items of the turns that the first call left.
+    pub between: [Option<u32>; 2],
+    pub enters: [u64; 3],
+    pub leaves: [u64; 3],
+    pub is_empty: bool,
+    pub none_ready: bool,
+    pub first_out: Option<u32>,
+}
+
+impl Seen {
+    /// Whether the second call polled just the items that the first one left, and the third item is out.
+    pub fn polled_what_was_left(&self) -> bool {
+        let mut was_left = [false; 3];
+        for item in self.between {
+            if let Some(item) = item {
+                if item < 3 {
+                    was_left[item as usize] = true;
+                }
+            }
+        }
+        for item in 0..3u32 {
+            let is_out = self.first_out == Some(item);
+            if was_left[item as usize] == is_out || (self.enters[item as usize] == 0) != is_out {
+                return false;
+            }
+        }
+        self.first_out.is_some()
+    }
 }
 
 fn two_calls<R: Wait>(rt: &R, alloc: Global) -> Result<Seen, NoMemory> {
@@ -115,20 +137,7 @@ fn a_worker_shares_what_it_finds(rt: HostRuntime) -> Result<(), Fail> {
     assert_eq!(rt; seen.enters_of_first, [0, 0, 0]);
     assert!(rt; seen.is_empty && seen.none_ready);
     assert_eq!(rt; seen.enters, seen.leaves);
-    let mut unpolled = [true; 3];
-    for item in seen.between {
-        if let Some(item) = item {
-            if item < 3 {
-                unpolled[item as usize] = false;
-            }
-        }
-    }
-    assert!(rt; seen.first_out.is_some());
-    for item in 0..3u32 {
-        let is_out = seen.first_out == Some(item);
-        assert!(rt; unpolled[item as usize] == is_out);
-        assert!(rt; (seen.enters[item as usize] == 0) == is_out);
-    }
+    assert!(rt; seen.polled_what_was_left());
     Ok(())
 }
 
@@ -140,6 +149,16 @@ fn poor_pool<R: Threads + Wait + Sync>(rt: &R, alloc: Global) -> Result<Results,
         sample: SampleMaker::new(),
     };
     run_pool(rt, alloc, layout, kept, &poor, 4, &OpenGate)
+}
+
+/// The same by workers that steal.
+fn poor_steal<R: Threads + Wait + Sync>(rt: &R, alloc: Global) -> Result<Results, NoMemory> {
+    let layout = Shared::new(alloc, three_items(alloc)?)?;
+    let kept = Kept::none(alloc, layout.get())?;
+    let poor = Poor {
+        sample: SampleMaker::new(),
+    };
+    run_steal(rt, alloc, layout, kept, &poor, 4, &OpenGate)
 }
 
 /// The same in rounds.
@@ -155,6 +174,7 @@ fn poor_rounds<R: Threads + Sync>(rt: &R, alloc: Global) -> Result<Results, NoMe
 #[test]
 fn want_of_memory_is_answered(rt: HostRuntime) -> Result<(), Fail> {
     assert!(rt; poor_pool(&rt, rt.alloc()).is_err());
+    assert!(rt; poor_steal(&rt, rt.alloc()).is_err());
     assert!(rt; poor_rounds(&rt, rt.alloc()).is_err());
     Ok(())
 }

@@ -1,4 +1,4 @@
-//! Trials of the workers: runs by several threads, polls that meet at a gate, and what one worker leaves.
+//! Trials of the workers: runs by several threads, polls that meet at a gate, and what one worker leaves or steals.
 #![tactic(auto)]
 
 #[cfg(test)]
@@ -9,3 +9,5 @@ mod gates;
 mod meetings;
 #[cfg(test)]
 mod runs;
+#[cfg(test)]
+mod thefts;

@@ -6,9 +6,9 @@ ghost use Rattle.hk_families.specs.Sample.{sample_shape};
 use hk_base::{NoMemory, Shared};
 use hk_chain::{Kept, Layout};
 use hk_families::{MutualMaker, SampleMaker};
-use hk_fix::{Outcome, Results};
+use hk_fix::{Compiler, Maker, Outcome, Results};
 use hk_outside::OpenGate;
-use hk_workers::{run_pool, run_rounds};
+use hk_workers::{run_pool, run_rounds, run_steal};
 use std::alloc::Global;
 use std::fmt::Write;
 use std::sync::Wait;
@@ -46,98 +46,121 @@ fn three_items(alloc: Global) -> Result<Layout, NoMemory>
     Layout::of_counts(alloc, &[1, 1, 1])
 }
 
-fn pool<R: Threads + Wait + Sync>(
+/// By whom a run is made.
+#[derive(Clone, Copy)]
+enum Way {
+    Pool,
+    Steal,
+    Rounds,
+}
+
+fn run<K: Maker + Sync, R: Threads + Wait + Sync>(
+    rt: &R,
+    alloc: Global,
+    layout: Layout,
+    maker: &K,
+    way: Way,
+    workers: u32,
+) -> Result<Results, NoMemory>
+where
+    K::M: Send,
+    <K::M as Compiler>::Common: Send,
+    requires layout { layout ≡ K.M.shape (K.common_is maker.now) }
+    requires workers { (0 < workers) × (workers ≤ 64) }
+{
+    let layout = Shared::new(alloc, layout)?;
+    let kept = Kept::none(alloc, layout.get())?;
+    match way {
+        Way::Pool => run_pool(rt, alloc, layout, kept, maker, workers, &OpenGate),
+        Way::Steal => run_steal(rt, alloc, layout, kept, maker, workers, &OpenGate),
+        Way::Rounds => run_rounds(rt, alloc, layout, kept, maker, workers),
+    }
+}
+
+fn mutual<R: Threads + Wait + Sync>(
     rt: &R,
     alloc: Global,
     early: bool,
+    way: Way,
     workers: u32,
 ) -> Result<Results, NoMemory>
     requires { (0 < workers) × (workers ≤ 64) }
 {
-    let layout = Shared::new(alloc, two_items(alloc)?)?;
-    let kept = Kept::none(alloc, layout.get())?;
+    let layout = two_items(alloc)?;
     let maker = MutualMaker { early };
-    run_pool(rt, alloc, layout, kept, &maker, workers, &OpenGate)
+    run(rt, alloc, layout, &maker, way, workers)
 }
 
-fn pool_of_groups<R: Threads + Wait + Sync>(
+fn groups<R: Threads + Wait + Sync>(
     rt: &R,
     alloc: Global,
+    way: Way,
     workers: u32,
 ) -> Result<Results, NoMemory>
     requires { (0 < workers) × (workers ≤ 64) }
 {
-    let layout = Shared::new(alloc, three_items(alloc)?)?;
-    let kept = Kept::none(alloc, layout.get())?;
+    let layout = three_items(alloc)?;
     let maker = SampleMaker::new();
-    run_pool(rt, alloc, layout, kept, &maker, workers, &OpenGate)
+    run(rt, alloc, layout, &maker, way, workers)
 }
 
-fn rounds<R: Threads + Sync>(
+/// What runs by so many workers print.
+fn prints<R: Threads + Wait + Sync>(
     rt: &R,
     alloc: Global,
-    early: bool,
+    way: Way,
     workers: u32,
-) -> Result<Results, NoMemory>
+) -> Result<[String; 3], Fail>
     requires { (0 < workers) × (workers ≤ 64) }
 {
-    let layout = Shared::new(alloc, two_items(alloc)?)?;
-    let kept = Kept::none(alloc, layout.get())?;
-    let maker = MutualMaker { early };
-    run_rounds(rt, alloc, layout, kept, &maker, workers)
+    let through = printed(alloc, &mutual(rt, alloc, true, way, workers)?)?;
+    let stuck = printed(alloc, &mutual(rt, alloc, false, way, workers)?)?;
+    let groups = printed(alloc, &groups(rt, alloc, way, workers)?)?;
+    Ok([through, stuck, groups])
 }
 
-fn rounds_of_groups<R: Threads + Sync>(
+/// Whether so many runs by as many workers print what a run on one thread does.
+fn agrees<R: Threads + Wait + Sync>(
     rt: &R,
     alloc: Global,
+    way: Way,
     workers: u32,
-) -> Result<Results, NoMemory>
+    times: u32,
+) -> Result<bool, Fail>
     requires { (0 < workers) × (workers ≤ 64) }
 {
-    let layout = Shared::new(alloc, three_items(alloc)?)?;
-    let kept = Kept::none(alloc, layout.get())?;
-    let maker = SampleMaker::new();
-    run_rounds(rt, alloc, layout, kept, &maker, workers)
+    for _ in 0..times {
+        let [through, stuck, groups] = prints(rt, alloc, way, workers)?;
+        let same = through.as_str() == "done 1;done 1;xxxx 6"
+            && stuck.as_str() == "waiting 1;waiting 1;---- 2"
+            && groups.as_str() == "done 2;waiting 1;failed;xxx-x- 8";
+        if !same {
+            return Ok(false);
+        }
+    }
+    Ok(true)
 }
 
 #[test]
-fn any_number_of_workers_gives_the_same(rt: HostRuntime) -> Result<(), Fail> {
-    let alloc = rt.alloc();
+fn the_pool_gives_the_same(rt: HostRuntime) -> Result<(), Fail> {
     for workers in [1, 2, 3, 16, 64] {
-        for _ in 0..20 {
-            let through = pool(&rt, alloc, true, workers)?;
-            assert_eq!(rt; printed(alloc, &through)?.as_str(), "done 1;done 1;xxxx 6");
-            let stuck = pool(&rt, alloc, false, workers)?;
-            assert_eq!(rt;
-                printed(alloc, &stuck)?.as_str(),
-                "waiting 1;waiting 1;---- 2"
-            );
-            let groups = pool_of_groups(&rt, alloc, workers)?;
-            assert_eq!(rt;
-                printed(alloc, &groups)?.as_str(),
-                "done 2;waiting 1;failed;xxx-x- 8"
-            );
-        }
+        assert!(rt; agrees(&rt, rt.alloc(), Way::Pool, workers, 20)?);
+    }
+    Ok(())
+}
+
+#[test]
+fn stealing_gives_the_same(rt: HostRuntime) -> Result<(), Fail> {
+    for workers in [1, 2, 3, 16, 64] {
+        assert!(rt; agrees(&rt, rt.alloc(), Way::Steal, workers, 8)?);
     }
     Ok(())
 }
 
 #[test]
 fn rounds_give_the_same(rt: HostRuntime) -> Result<(), Fail> {
-    let alloc = rt.alloc();
     for workers in [1, 2, 3, 16, 64] {
-        let through = rounds(&rt, alloc, true, workers)?;
-        assert_eq!(rt; printed(alloc, &through)?.as_str(), "done 1;done 1;xxxx 6");
-        let stuck = rounds(&rt, alloc, false, workers)?;
-        assert_eq!(rt;
-            printed(alloc, &stuck)?.as_str(),
-            "waiting 1;waiting 1;---- 2"
-        );
-        let groups = rounds_of_groups(&rt, alloc, workers)?;
-        assert_eq!(rt;
-            printed(alloc, &groups)?.as_str(),
-            "done 2;waiting 1;failed;xxx-x- 8"
-        );
+        assert!(rt; agrees(&rt, rt.alloc(), Way::Rounds, workers, 1)?);
     }
     Ok(())
 }

@@ -21,14 +21,14 @@ use Rattle.hk_build.specs.Ended.{IsReplayed}
 use Rattle.hk_build.proofs.Replayed.{replayed, has-replayed, built}
 use Rattle.hk_build.proofs.pool.build_in_pool.Goals as goal
 
-pub run_pool-requires-send-K-M : goal.run_pool-requires-send-K-M
-run_pool-requires-send-K-M g c κs within = param_send 3 _ (arg_send _ yes _ (replay.the_send machine.the_row (Shared.the_row plan.the_row) compiler.ghosts machine_send))
+pub run_steal-requires-send-K-M : goal.run_steal-requires-send-K-M
+run_steal-requires-send-K-M g c κs within = param_send 3 _ (arg_send _ yes _ (replay.the_send machine.the_row (Shared.the_row plan.the_row) compiler.ghosts machine_send))
 
-pub run_pool-requires-send-K-M-Common : goal.run_pool-requires-send-K-M-Common
-run_pool-requires-send-K-M-Common g c κs within = param_send 4 _ (arg_send _ yes _ (held.the_send (Shared.the_row plan.the_row) (shared.the_send plan.the_row plan_send plan_sync)))
+pub run_steal-requires-send-K-M-Common : goal.run_steal-requires-send-K-M-Common
+run_steal-requires-send-K-M-Common g c κs within = param_send 4 _ (arg_send _ yes _ (held.the_send (Shared.the_row plan.the_row) (shared.the_send plan.the_row plan_send plan_sync)))
 
-pub run_pool-requires-sync-K : goal.run_pool-requires-sync-K
-run_pool-requires-sync-K g c κs within = param_sync 0 _ (arg_sync _ yes _ (maker.the_sync plans.the_row machine.the_row (Shared.the_row plan.the_row) making.ghosts compiler.ghosts maker_sync))
+pub run_steal-requires-sync-K : goal.run_steal-requires-sync-K
+run_steal-requires-sync-K g c κs within = param_sync 0 _ (arg_sync _ yes _ (maker.the_sync plans.the_row machine.the_row (Shared.the_row plan.the_row) making.ghosts compiler.ghosts maker_sync))
 
 pub ended-requires-clause-replayed : goal.ended-requires-clause-replayed
 ended-requires-clause-replayed g c =
