@@ -43,7 +43,12 @@ pub fn fingerprint_digest(alloc: Global, plan: &Plan, item: ItemNo) -> Result<[u
 }
 
 /// The chain, and the contexts that it reaches.
-fn write_chain(alloc: Global, out: &mut Vec<u8>, plan: &Plan, item: ItemNo) -> Result<(), NoMemory>
+pub(crate) fn write_chain(
+    alloc: Global,
+    out: &mut Vec<u8>,
+    plan: &Plan,
+    item: ItemNo,
+) -> Result<(), NoMemory>
     requires item { item < length plan.now.items }
     requires linked { IsLinkedPlan plan.now }
     ensures { OnOk result (out.new.items ≡ out.old.items ++ spec.chain_text (recipe_of plan.now item)) }
