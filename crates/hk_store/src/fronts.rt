@@ -10,6 +10,7 @@ ghost use Rattle.hk_store.specs.RecipeText as spec;
 ghost use Rattle.hk_store.specs.Traits.{sha_digests};
 
 use crate::chains::is_same_chain;
+use crate::digests::ROOM;
 use crate::fields::write_opt;
 use crate::fingerprints::write_chain;
 use hk_base::NoMemory;
@@ -132,7 +133,7 @@ fn digest_after(
     requires front { Holds256 front (spec.chain_text (recipe_of plan.now item)) }
     ensures { IfOk result (λ d. d ≡ sha_digests.text (spec.recipe_text (recipe_of plan.now item))) }
 {
-    let mut rest = Vec::new(alloc);
+    let mut rest = Vec::with_capacity(alloc, ROOM)?;
     write_opt(&mut rest, plan.target_of(item))?;
     write_opt(&mut rest, plan.resource(item))?;
     write_opt(&mut rest, plan.companion(item))?;

@@ -20,7 +20,7 @@ mod steps;
 pub use damage::StoreDamage;
 pub use digests::{page_digest, traits_digest};
 pub use entry::{AskRecord, Entry, MarkRecord, MatchRecord, SaveRecord, Stored};
-pub use fingerprints::{fingerprint, fingerprint_digest};
+pub use fingerprints::fingerprint;
 pub use fronts::fingerprint_digests;
 pub use laws::{patterns_are_told, recipes_are_told};
 pub use print::print_store;
