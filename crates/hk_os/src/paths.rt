@@ -22,7 +22,9 @@ pub fn path_of(alloc: Global, root: &str, path: &[u8]) -> Result<String, TreeFau
 pub fn below(alloc: Global, folder: &str, name: &str) -> Result<String, NoMemory>
     ensures { IfOk result (λ path. string_bytes path ≡ path_below folder.now name.now) }
 {
-    let mut path = String::from_str(alloc, folder)?;
+    let length = folder.len().saturating_add(name.len()).saturating_add(1);
+    let mut path = String::with_capacity(alloc, length)?;
+    path.push_str(folder)?;
     if !folder.is_empty() && !name.is_empty() {
         path.push_str("/")?;
     }

@@ -6,7 +6,6 @@ use Rattle.std.specs.List.{position_from, cons_option}
 use Rattle.std.specs.Ordering.{eq_by_cmp}
 use Rattle.std.specs.Option.{option_and_then, unwrap_or}
 use Rattle.std.proofs.lemmas.List.{take_more, drop_more, map-append, get_or-map, length-map}
-use Rattle.sha2.specs.Sha256.{sha256}
 use Rattle.hk_base.specs.Bytes.{Bytes}
 use Rattle.hk_base.specs.declared.text.Text.{Text}
 use Rattle.hk_base.specs.Identifier.{Ident, ident_cmp}
@@ -197,10 +196,6 @@ if-ok (Err e) P Q f h = h
 pub numbers-same : (plan : PlanView) (texts : List Bytes) (ms : List MatchView) → texts ≡ pattern_texts plan → map (λ m. unwrap_or (position_from (λ own. bytes_eq own m.text) 0 texts) 0) ms ≡ map (λ m. (table_of plan).number m.text) ms
 unfolding table_of
 numbers-same plan texts ms e = ap (λ l. map (λ (m : MatchView). unwrap_or (position_from (λ own. bytes_eq own m.text) 0 l) 0) ms) e
-
-pub text-digest : (text : Bytes) → sha256 text ≡ sha_digests.text text
-unfolding sha_digests
-text-digest text = refl
 
 pub chain-same : (plan : PlanView) (item : ℕ) → (lookups plan).chain item ≡ chain_at plan item
 unfolding lookups

@@ -2,9 +2,7 @@
 ghost use Rattle.std.specs.Prelude.{◌≡◌, ◌<◌, ℕ, [], length, map, get_or, bytes_eq, IfOk};
 ghost use Rattle.std.specs.List.{position_from};
 ghost use Rattle.hk_rules.specs.Plan.{matches_in};
-ghost use Rattle.hk_rules.specs.Recipe.{recipe_of};
 ghost use Rattle.hk_eval.specs.PlanTable.{traits_at, pattern_texts};
-ghost use Rattle.hk_store.specs.RecipeText.{recipe_text};
 ghost use Rattle.hk_store.specs.Traits.{sha_digests};
 ghost use Rattle.hk_replay.specs.Known.{IsKnown};
 
@@ -13,7 +11,7 @@ use crate::texts::PatternTexts;
 use hk_base::{NoMemory, Text};
 use hk_chain::{ItemNo, PatternNo};
 use hk_rules::{Plan, text_of_pattern};
-use hk_store::{fingerprint_digest, traits_digest};
+use hk_store::{fingerprint_digests, traits_digest};
 use std::alloc::Global;
 use std::marker::Model;
 
@@ -56,7 +54,7 @@ impl Known {
     pub(crate) fn of(alloc: Global, plan: &Plan) -> Result<Known, NoMemory>
         ensures { IfOk result (λ k. IsKnown plan.now k) }
     {
-        let prints = all_prints(alloc, plan)?;
+        let prints = fingerprint_digests(alloc, plan)?;
         let traits = all_traits(alloc, plan)?;
         let texts = PatternTexts::of(alloc, texts_of(alloc, plan)?)?;
         let matches = matches_of(alloc, plan)?;
@@ -124,20 +122,6 @@ impl Known {
     {
         self.traits[item.0 as usize].as_slice() == digest.as_slice()
     }
-}
-
-/// The digests of the items' fingerprints, each computed once.
-fn all_prints(alloc: Global, plan: &Plan) -> Result<Vec<[u8; 32]>, NoMemory>
-    ensures count { IfOk result (λ v. length v.items ≡ length plan.now.items) }
-    ensures each { IfOk result (λ v. (item : ℕ) → item < length plan.now.items
-        → get_or v.items item [] ≡ sha_digests.text (recipe_text (recipe_of plan.now item))) }
-{
-    let mut prints = Vec::new(alloc);
-    for number in 0..plan.count() {
-        let digest = fingerprint_digest(alloc, plan, ItemNo(number))?;
-        prints.push(digest)?;
-    }
-    Ok(prints)
 }
 
 /// The digests of the items' traits, each computed once.

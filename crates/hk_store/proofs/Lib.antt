@@ -1,6 +1,7 @@
 pub mod Ascents
 pub mod Exits
 pub mod Finding
+pub mod Hashing
 pub mod Keys
 pub mod Letters
 pub mod Numerals
@@ -10,6 +11,7 @@ pub mod PatternTexts
 pub mod ReadOnce
 pub mod Readings
 pub mod RecipeTexts
+pub mod SameSteps
 pub mod SavedNames
 pub mod Seals
 pub mod Stores

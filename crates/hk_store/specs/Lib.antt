@@ -3,6 +3,7 @@ pub mod Digests
 pub mod Digits
 pub mod Entry
 pub mod Found
+pub mod Fronts
 pub mod Marks
 pub mod Reached
 pub mod Reading

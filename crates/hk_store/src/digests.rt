@@ -8,7 +8,7 @@ ghost use Rattle.hk_store.specs.StoreText.{page_text};
 ghost use Rattle.hk_store.specs.Told.{both};
 ghost use Rattle.hk_store.specs.Traits.{sha_digests};
 
-use crate::fields::{write_num, write_opt, write_str};
+use crate::fields::{append, write_num, write_opt, write_str};
 use crate::print::{kind_line, sha_of};
 use hk_base::NoMemory;
 use hk_chain::Page;
@@ -16,12 +16,16 @@ use hk_meta::Metadata;
 use sha2::{Digest, Sha256};
 use std::alloc::Global;
 
+/// Room that is taken at once, which most pieces of a text to be hashed don't outgrow.
+pub(crate) const ROOM: usize = 256;
+
 /// The digest of a page: the SHA-256 of its kind and its body. `NoMemory` only for want of memory for the line with the
 /// body's length. Linear; the body isn't copied.
 pub fn page_digest(alloc: Global, page: &Page) -> Result<[u8; 32], NoMemory>
     ensures { IfOk result (λ d. d ≡ sha_digests.page page.now) }
 {
-    let mut front = Vec::from_slice(alloc, kind_line(page.kind))?;
+    let mut front = Vec::with_capacity(alloc, ROOM)?;
+    append(&mut front, kind_line(page.kind))?;
     write_num(&mut front, page.body.as_slice().len())?;
     Ok(sha_of_three(&front, page.body.as_slice(), b"\n"))
 }
@@ -46,9 +50,9 @@ pub fn traits_digest(
 ) -> Result<[u8; 32], NoMemory>
     ensures { IfOk result (λ d. d ≡ sha_digests.traits (record { target = option_copied target.entry; meta = meta.now })) }
 {
-    let mut pairs = Vec::new(alloc);
+    let mut pairs = Vec::with_capacity(alloc, ROOM)?;
     let count = write_pairs(&mut pairs, meta)?;
-    let mut front = Vec::new(alloc);
+    let mut front = Vec::with_capacity(alloc, ROOM)?;
     write_opt(&mut front, target)?;
     write_num(&mut front, count)?;
     Ok(sha_of_three(&front, &pairs, b""))

@@ -6,12 +6,10 @@ ghost use Rattle.hk_rules.specs.LinkedPlan.{IsLinkedPlan};
 ghost use Rattle.hk_rules.specs.Plan.{lookups};
 ghost use Rattle.hk_forms.specs.PatternText.{num, str};
 ghost use Rattle.hk_rules.specs.Recipe.{context_name, named_context, named_field, named_step, pattern_text, recipe_of};
-ghost use Rattle.sha2.specs.Sha256.{sha256};
 ghost use Rattle.hk_store.specs.RecipeText as spec;
 ghost use Rattle.hk_store.specs.Told.{many};
 
 use crate::fields::{append, write_ident, write_num, write_opt, write_str};
-use crate::print::sha_of;
 use crate::reached::reached;
 use hk_base::{NoMemory, Text};
 use hk_chain::{ContextNo, Field, ItemNo, Order, PatternNo, Step};
@@ -33,17 +31,13 @@ pub fn fingerprint(alloc: Global, plan: &Plan, item: ItemNo) -> Result<Text, NoM
     Ok(Text::from_vec(out))
 }
 
-/// The digest of the fingerprint.
-pub fn fingerprint_digest(alloc: Global, plan: &Plan, item: ItemNo) -> Result<[u8; 32], NoMemory>
-    requires { item < length plan.now.items }
-    ensures { IfOk result (λ d. d ≡ sha256 (spec.recipe_text (recipe_of plan.now item))) }
-{
-    let text = fingerprint(alloc, plan, item)?;
-    Ok(sha_of(text.as_slice()))
-}
-
 /// The chain, and the contexts that it reaches.
-fn write_chain(alloc: Global, out: &mut Vec<u8>, plan: &Plan, item: ItemNo) -> Result<(), NoMemory>
+pub(crate) fn write_chain(
+    alloc: Global,
+    out: &mut Vec<u8>,
+    plan: &Plan,
+    item: ItemNo,
+) -> Result<(), NoMemory>
     requires item { item < length plan.now.items }
     requires linked { IsLinkedPlan plan.now }
     ensures { OnOk result (out.new.items ≡ out.old.items ++ spec.chain_text (recipe_of plan.now item)) }

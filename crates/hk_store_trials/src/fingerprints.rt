@@ -2,7 +2,7 @@
 use hk_base::Text;
 use hk_chain::ItemNo;
 use hk_rules::{Plan, make_plan, read_rules};
-use hk_store::{fingerprint, fingerprint_digest, traits_digest};
+use hk_store::{fingerprint, fingerprint_digests, traits_digest};
 use std::alloc::Global;
 use std::test::Fail;
 
@@ -62,9 +62,9 @@ fn first_print(alloc: Global, plan: &Plan) -> Result<Text, Fail> {
 /// The digests of the first item's fingerprint and of its traits.
 fn first_digests(alloc: Global, plan: &Plan) -> Result<([u8; 32], [u8; 32]), Fail> {
     if plan.count() > 0 {
-        let print = fingerprint_digest(alloc, plan, ItemNo(0))?;
+        let prints = fingerprint_digests(alloc, plan)?;
         let traits = traits_digest(alloc, plan.target_of(ItemNo(0)), plan.meta(ItemNo(0)))?;
-        Ok((print, traits))
+        Ok((prints[0], traits))
     } else {
         Err(Fail::from("no item"))
     }
