@@ -6,6 +6,7 @@ mod routes;
 mod scalars;
 mod tags;
 mod templates;
+mod values;
 mod wrong;
 
 pub use dates::date_laws;
@@ -13,4 +14,5 @@ pub use routes::route_laws;
 pub use scalars::scalar_laws;
 pub use tags::tag_laws;
 pub use templates::template_laws;
+pub use values::value_laws;
 pub use wrong::wrong_definitions_break_laws;

@@ -1,7 +1,8 @@
 // Wrong definitions that the laws refuse.
-ghost use Rattle.hk_laws.specs.WrongDefinitions.{CaseMatters, NoComments, NoRawText, NoTags, PlacesZero, SrcIsNoLink};
+ghost use Rattle.hk_laws.specs.WrongDefinitions.{BodyOfCreated, CaseMatters, DotIsExtension, FalseIsNoVersion, NoComments, NoRawText, NoTags, NoneIsCount, PlacesZero, RecentIsChronological, SrcIsNoLink};
 
-/// Five wrong scanners of tags and a wrong first fault of a template break the laws. Does nothing.
+/// Five wrong scanners of tags, a wrong first fault of a template and five wrong readings of values of the rules file break the
+/// laws. Does nothing.
 pub fn wrong_definitions_break_laws()
     ensures no_tags { NoTags }
     ensures no_comments { NoComments }
@@ -9,4 +10,9 @@ pub fn wrong_definitions_break_laws()
     ensures no_src { SrcIsNoLink }
     ensures no_case { CaseMatters }
     ensures no_places { PlacesZero }
+    ensures no_false { FalseIsNoVersion }
+    ensures no_dot { DotIsExtension }
+    ensures no_body { BodyOfCreated }
+    ensures no_zero { NoneIsCount }
+    ensures no_turned { RecentIsChronological }
 {}
