@@ -3,6 +3,7 @@ pub mod CutLemmas
 pub mod DateLemmas
 pub mod FaultLemmas
 pub mod FieldValueLemmas
+pub mod FileUseLemmas
 pub mod FirstLemmas
 pub mod HeldLemmas
 pub mod KindLemmas
@@ -20,6 +21,7 @@ pub mod RunLemmas
 pub mod ScalarLemmas
 pub mod StepValueLemmas
 pub mod TokenLemmas
+pub mod UseLemmas
 pub mod ValueLemmas
 pub mod WalkLemmas
 pub mod WordLemmas

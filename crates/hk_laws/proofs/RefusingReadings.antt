@@ -1,5 +1,5 @@
 -- Wrong readings of values of the rules file break the laws.
-use Rattle.std.proofs.Common.{◌≡◌, ℕ, pos, Bool, true, false, codes, refl, arith}
+use Rattle.std.proofs.Common.{◌≡◌, ℕ, pos, Bool, true, false, codes, refl, arith, length, subst, List, [], ◌∷◌, ◌<◌, inl, inr}
 use Rattle.toml.specs.Data.{Data, string, integer, boolean}
 use Rattle.hk_base.specs.Bytes.{Bytes}
 use Rattle.hk_chain.specs.declared.context.Order.{Order}
@@ -7,12 +7,13 @@ use Rattle.hk_chain.specs.declared.context.Order.TheVariants.{Chronological}
 use Rattle.hk_pattern.specs.declared.pattern.Pattern.{Pattern}
 use Rattle.hk_route.specs.declared.route.Route.{Route}
 use Rattle.hk_steps.specs.declared.draft.DraftStep.{DraftStep}
+use Rattle.hk_laws.specs.FirstUses.{AreByFirstUse}
 use Rattle.hk_laws.specs.FieldValues.{IsOrder, by_id, chronological, recent, IsCount, count}
 use Rattle.hk_laws.specs.PatternValues.{PatternRow, bare_glob, glob, ids, all, any, other, has_version, no_version}
 use Rattle.hk_laws.specs.RouteValues.{RouteRow, same, first, dotted, extension, constant, gsub, where_, compose}
 use Rattle.hk_laws.specs.StepValues.{IsStep, body, whole, copy, template, relativize, make, load, load_saved, concat, apply, apply_in, self, save}
 use Rattle.hk_laws.specs.Values.{only_at, HasTwo, in_order, turned}
-use Rattle.hk_laws.specs.WrongDefinitions.{FalseIsNoVersion, DotIsExtension, BodyOfCreated, NoneIsCount, RecentIsChronological}
+use Rattle.hk_laws.specs.WrongDefinitions.{FalseIsNoVersion, DotIsExtension, BodyOfCreated, NoneIsCount, RecentIsChronological, UnusedPattern, TurnedPatterns}
 
 no_row : (Inner : Data → Pattern → Type 0) (d : Data) (p : Pattern) → PatternRow Inner d p → d ≡ only_at (codes "no_version") (boolean false) → ⊥
 no_row Inner _ _ (bare_glob text short) e = let no_ : ⊥ = cc in no_
@@ -79,3 +80,15 @@ no_order _ _ recent e is = let no_ : ⊥ = cc in no_
 
 pub recent_is_chronological : RecentIsChronological
 recent_is_chronological read e laws = no_order _ _ ((laws _ _).0 e) refl refl
+
+pub unused_pattern : UnusedPattern
+unused_pattern read bytes rules e none one laws =
+    let no_number : 0 ≡ length rules.patterns = subst (λ (ns : List ℕ). AreByFirstUse 0 ns (length rules.patterns)) none (laws bytes rules e) in
+    absurd (omega (arith, no_number, one))
+
+no_second : (n : ℕ) → AreByFirstUse 0 (1 ∷ (0 ∷ [])) n → ⊥
+no_second n (inl is) = let less : 1 < 0 = is.0 in absurd (omega (arith, less))
+no_second n (inr is) = let same : 1 ≡ 0 = is.0 in absurd (omega (arith, same))
+
+pub turned_patterns : TurnedPatterns
+turned_patterns read bytes rules e numbers laws = no_second (length rules.patterns) (subst (λ (ns : List ℕ). AreByFirstUse 0 ns (length rules.patterns)) numbers (laws bytes rules e))

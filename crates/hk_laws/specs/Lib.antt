@@ -2,6 +2,7 @@
 pub mod Cuttings
 pub mod DatePatterns
 pub mod FieldValues
+pub mod FirstUses
 pub mod Letters
 pub mod Links
 pub mod PatternValues

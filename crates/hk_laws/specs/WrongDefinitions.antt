@@ -1,5 +1,5 @@
 -- Wrong definitions, by what they make of one text, break the laws.
-use Rattle.std.specs.Prelude.{◌≡◌, ℕ, pos, true, false, List, [], ◌∷◌, Option, Some, codes}
+use Rattle.std.specs.Prelude.{◌≡◌, ℕ, pos, true, false, List, [], ◌∷◌, Option, Some, codes, length, Result, Ok}
 use Rattle.toml.specs.Data.{Data, string, integer, boolean}
 use Rattle.hk_base.specs.Bytes.{Bytes}
 use Rattle.hk_chain.specs.declared.context.Order.{Order}
@@ -7,10 +7,13 @@ use Rattle.hk_chain.specs.declared.context.Order.TheVariants.{Chronological}
 use Rattle.hk_html.specs.Piece.{Piece, tag, other}
 use Rattle.hk_pattern.specs.declared.pattern.Pattern.{Pattern, HasNoVersion}
 use Rattle.hk_route.specs.declared.route.Route.{Route}
+use Rattle.hk_rules_file.specs.Rules.{RulesView}
+use Rattle.hk_rules_file.specs.declared.fault.RulesFault.{RulesFault}
 use Rattle.hk_steps.specs.declared.draft.DraftStep.{DraftStep}
 use Rattle.hk_template.specs.declared.fault.TemplateFault.{TemplateFault}
 use Rattle.hk_template.specs.declared.fault.TemplateFault.TheVariants.{Unclosed}
 use Rattle.hk_laws.specs.Cuttings.{CutsEach}
+use Rattle.hk_laws.specs.FirstUses.{used_numbers, NumbersByFirstUse}
 use Rattle.hk_laws.specs.Links.{LinksOfEach}
 use Rattle.hk_laws.specs.FieldValues.{IsCount, IsOrder}
 use Rattle.hk_laws.specs.PatternValues.{IsPattern}
@@ -56,3 +59,12 @@ NoneIsCount = (read : Data → Option ℕ) (n : ℕ) → read (integer (pos 0)) 
 
 abbrev pub RecentIsChronological : Type 0
 RecentIsChronological = (read : Data → Option Order) → read (string (codes "recent")) ≡ Some Chronological → Reads read IsOrder → ⊥
+
+-- readings of whole rules files: a pattern that nothing uses, and the second pattern before the first
+abbrev pub UnusedPattern : Type 0
+UnusedPattern =
+    (read : Bytes → Result RulesView RulesFault) (bytes : Bytes) (rules : RulesView) → read bytes ≡ Ok rules → used_numbers rules ≡ [] → length rules.patterns ≡ 1
+    → NumbersByFirstUse read → ⊥
+
+abbrev pub TurnedPatterns : Type 0
+TurnedPatterns = (read : Bytes → Result RulesView RulesFault) (bytes : Bytes) (rules : RulesView) → read bytes ≡ Ok rules → used_numbers rules ≡ 1 ∷ (0 ∷ []) → NumbersByFirstUse read → ⊥

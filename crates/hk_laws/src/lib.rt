@@ -2,6 +2,7 @@
 #![tactic(auto)]
 
 mod dates;
+mod numbers;
 mod routes;
 mod scalars;
 mod tags;
@@ -10,6 +11,7 @@ mod values;
 mod wrong;
 
 pub use dates::date_laws;
+pub use numbers::number_laws;
 pub use routes::route_laws;
 pub use scalars::scalar_laws;
 pub use tags::tag_laws;

@@ -35,3 +35,9 @@ returns-clause-no_zero c = RefusingReadings.none_is_count
 
 pub returns-clause-no_turned : goal.returns-clause-no_turned
 returns-clause-no_turned c = RefusingReadings.recent_is_chronological
+
+pub returns-clause-no_unused : goal.returns-clause-no_unused
+returns-clause-no_unused c = RefusingReadings.unused_pattern
+
+pub returns-clause-no_later : goal.returns-clause-no_later
+returns-clause-no_later c = RefusingReadings.turned_patterns
