@@ -9,6 +9,7 @@ pub mod HeldLemmas
 pub mod KindLemmas
 pub mod LetterLemmas
 pub mod LinkLemmas
+pub mod ListValueLemmas
 pub mod PartLemmas
 pub mod PatternValueLemmas
 pub mod PieceLemmas

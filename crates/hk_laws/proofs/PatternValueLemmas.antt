@@ -1,19 +1,20 @@
 -- Identifiers and patterns are read exactly where they are such values.
-use Rattle.std.proofs.Common.{◌≡◌, ◌≤◌, ℕ, zero, suc, Bool, true, false, not, nat_lt, if◌then◌else◌, codes, length, refl, sym, ap, subst, ◌∙◌, Option, Some, None, Ok, Err, option_map}
+use Rattle.std.proofs.Common.{◌≡◌, ◌≤◌, ℕ, zero, suc, Bool, true, false, not, nat_lt, if◌then◌else◌, codes, length, refl, sym, ap, subst, ◌∙◌, Option, Some, None, Ok, Err, option_map, List}
 use Rattle.std.specs.Prelude.{is_some, option_and_then}
-use Rattle.toml.specs.Data.{Data, string, integer, float, boolean, datetime, array, table, Items, no_members, member, as_str, as_bool, as_table}
+use Rattle.toml.specs.Data.{Data, string, integer, float, boolean, datetime, array, table, Items, no_members, member, as_str, as_bool, as_table, as_array}
 use Rattle.hk_base.specs.Bytes.{Bytes}
 use Rattle.hk_base.specs.Identifier.{Ident, path_fault, is_path, is_version, version_fault, first_of, unless}
 use Rattle.hk_base.specs.declared.identifier.IdentFault.{IdentFault}
 use Rattle.hk_base.specs.declared.identifier.IdentFault.TheVariants.{BadVersion}
-use Rattle.hk_forms.specs.IdForm.{value_of, ident_at, id_pair, id_by, id_of, version_by, version_of}
+use Rattle.hk_forms.specs.IdForm.{value_of, ident_at, id_pair, id_by, id_of, version_by, version_of, path_of}
 use Rattle.hk_forms.specs.Members.{only, two}
 use Rattle.hk_forms.specs.PatternForm.{glob_of, ids_by, no_version as version_none, and_by, or_by, keyed, pattern_by, pattern_at, pattern_of}
 use Rattle.hk_pattern.specs.declared.glob.GlobFault.TheVariants.{TooLong}
 use Rattle.hk_pattern.specs.declared.pattern.Pattern.{Pattern, Glob, Ids, And, Or, Not, HasVersion, HasNoVersion}
+use Rattle.hk_rules_file.specs.RuleForm.{paths_by, paths_of}
 use Rattle.hk_laws.specs.Values.{Reads, only_at, two_items}
-use Rattle.hk_laws.specs.PatternValues.{IsIdent, bare, versioned, PatternRow, bare_glob, glob, ids, all, any, other, has_version, no_version, IsPatternWithin, IsPattern}
-use Rattle.hk_laws.proofs.ValueLemmas.{at_key, tested, of_map, lt_not, not_lt, is_string, is_boolean, is_two, is_listed, list_is}
+use Rattle.hk_laws.specs.PatternValues.{IsIdent, bare, versioned, PatternRow, bare_glob, glob, ids, all, any, other, has_version, no_version, IsPatternWithin, IsPattern, IsCreated, created, AreCreated, IsVersion, versioning}
+use Rattle.hk_laws.proofs.ValueLemmas.{at_key, tested, of_map, lt_not, not_lt, is_string, is_boolean, is_two, is_listed, list_is, listed_is, is_array}
 
 -- ---- identifiers
 
@@ -21,7 +22,7 @@ abbrev path_only : Bytes → Ident
 path_only path = record { path = path; version = None }
 
 abbrev with_version : Bytes → Bytes → Ident
-with_version path version = record { path = path; version = Some version }
+with_version path own = record { path = path; version = Some own }
 
 no_fault : (path : Bytes) (fault : Option IdentFault) → not (is_some fault) ≡ true → fault ≡ None
 no_fault path None e = refl
@@ -79,6 +80,33 @@ is_ident _ _ (versioned path version e f) = at_both path version e f
 
 pub reads_idents : Reads id_of IsIdent
 reads_idents d id = (ident_is d id, is_ident d id)
+
+-- ---- what a rule creates
+
+created_is : (d : Data) (id : Ident) → path_of d ≡ Some id → IsCreated d id
+created_is (string path) id e = let is = path_at path id e in subst (IsCreated (string path)) is.1 (created path is.0)
+created_is (array ds) id e = let no_ : ⊥ = cc in absurd no_
+created_is (integer z) id e = let no_ : ⊥ = cc in absurd no_
+created_is (float x) id e = let no_ : ⊥ = cc in absurd no_
+created_is (boolean b) id e = let no_ : ⊥ = cc in absurd no_
+created_is (datetime t) id e = let no_ : ⊥ = cc in absurd no_
+created_is (table ms) id e = let no_ : ⊥ = cc in absurd no_
+
+is_created : (d : Data) (id : Ident) → IsCreated d id → path_of d ≡ Some id
+is_created _ _ (created path e) = at_path path e
+
+reads_created : Reads path_of IsCreated
+reads_created d id = (created_is d id, is_created d id)
+
+paths_is : (d : Data) (made : List Ident) (o : Option Items) → as_array d ≡ o → paths_by o ≡ Some made → AreCreated d made
+paths_is d made None at e = let no_ : ⊥ = cc in absurd no_
+paths_is d made (Some ds) at e = record { items = ds; array_is = is_array d ds at; listed = listed_is path_of IsCreated reads_created ds made e }
+
+pub reads_paths : Reads paths_of AreCreated
+reads_paths d made = (
+  λ e. paths_is d made (as_array d) refl e,
+  λ is. ap paths_of is.array_is ∙ is_listed path_of IsCreated reads_created is.items made is.listed,
+)
 
 -- ---- patterns
 
@@ -160,3 +188,12 @@ reads_patterns_within (suc n) d p =
 
 pub reads_patterns : Reads pattern_of IsPattern
 reads_patterns = reads_patterns_within 16
+
+is_version_of : (d : Data) (text : Bytes) → IsVersion d text → version_of d ≡ Some text
+is_version_of _ _ (versioning text fits) = ap (λ b. if b then Some text else None) fits
+
+pub reads_versions : Reads version_of IsVersion
+reads_versions d text = (
+  λ e. let is = version_is (as_str d) text e in subst (λ t. IsVersion t text) (sym (is_string d text is.0)) (versioning text is.1),
+  is_version_of d text,
+)

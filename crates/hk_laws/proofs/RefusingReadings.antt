@@ -13,7 +13,7 @@ use Rattle.hk_laws.specs.PatternValues.{PatternRow, bare_glob, glob, ids, all, a
 use Rattle.hk_laws.specs.RouteValues.{RouteRow, same, first, dotted, extension, constant, gsub, where_, compose}
 use Rattle.hk_laws.specs.StepValues.{IsStep, body, whole, copy, template, relativize, make, load, load_saved, concat, apply, apply_in, self, save}
 use Rattle.hk_laws.specs.Values.{only_at, HasTwo, in_order, turned}
-use Rattle.hk_laws.specs.WrongDefinitions.{FalseIsNoVersion, DotIsExtension, BodyOfCreated, NoneIsCount, RecentIsChronological, UnusedPattern, TurnedPatterns}
+use Rattle.hk_laws.specs.WrongDefinitions.{FalseIsNoVersion, DotIsExtension, BodyOfCreated, NoneIsCount, RecentIsChronological, NoSteps, UnusedPattern, TurnedPatterns}
 
 no_row : (Inner : Data → Pattern → Type 0) (d : Data) (p : Pattern) → PatternRow Inner d p → d ≡ only_at (codes "no_version") (boolean false) → ⊥
 no_row Inner _ _ (bare_glob text short) e = let no_ : ⊥ = cc in no_
@@ -92,3 +92,6 @@ no_second n (inr is) = let same : 1 ≡ 0 = is.0 in absurd (omega (arith, same))
 
 pub turned_patterns : TurnedPatterns
 turned_patterns read bytes rules e numbers laws = no_second (length rules.patterns) (subst (λ (ns : List ℕ). AreByFirstUse 0 ns (length rules.patterns)) numbers (laws bytes rules e))
+
+pub no_steps : NoSteps
+no_steps read e laws = let some = ((laws _ _).0 e).some in absurd (omega (arith, some))

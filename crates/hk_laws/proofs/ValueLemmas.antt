@@ -149,18 +149,18 @@ cons_is f Is reads d ds (Some x) (Some ys) xs one_is rest e =
     let same : x ∷ ys ≡ xs = cc in
     subst (AreEach Is (item d ds)) same ((reads d x).0 one_is, rest ys refl)
 
-each_is : {X : Type 0} (f : Data → Option X) (Is : Data → X → Type 0) → Reads f Is → (ds : Items) (xs : List X) → each f ds ≡ Some xs → AreEach Is ds xs
+pub each_is : {X : Type 0} (f : Data → Option X) (Is : Data → X → Type 0) → Reads f Is → (ds : Items) (xs : List X) → each f ds ≡ Some xs → AreEach Is ds xs
 each_is f Is reads no_items [] e = tt
 each_is f Is reads no_items (x ∷ xs) e = let no_ : ⊥ = cc in absurd no_
 each_is f Is reads (item d ds) xs e = cons_is f Is reads d ds (f d) (each f ds) xs refl (λ ys more. each_is f Is reads ds ys more) e
 
-is_each : {X : Type 0} (f : Data → Option X) (Is : Data → X → Type 0) → Reads f Is → (ds : Items) (xs : List X) → AreEach Is ds xs → each f ds ≡ Some xs
+pub is_each : {X : Type 0} (f : Data → Option X) (Is : Data → X → Type 0) → Reads f Is → (ds : Items) (xs : List X) → AreEach Is ds xs → each f ds ≡ Some xs
 is_each f Is reads no_items [] is = refl
 is_each f Is reads no_items (x ∷ xs) is = absurd is
 is_each f Is reads (item d ds) [] is = absurd is
 is_each f Is reads (item d ds) (x ∷ xs) is = λ i. cons ((reads d x).1 is.0 i) (is_each f Is reads ds xs is.1 i)
 
-count_is : {X : Type 0} (Is : Data → X → Type 0) (ds : Items) (xs : List X) → AreEach Is ds xs → count_items ds ≡ length xs
+pub count_is : {X : Type 0} (Is : Data → X → Type 0) (ds : Items) (xs : List X) → AreEach Is ds xs → count_items ds ≡ length xs
 count_is Is no_items [] is = refl
 count_is Is no_items (x ∷ xs) is = absurd is
 count_is Is (item d ds) [] is = absurd is

@@ -5,6 +5,7 @@ pub mod FieldValues
 pub mod FirstUses
 pub mod Letters
 pub mod Links
+pub mod ListValues
 pub mod PatternValues
 pub mod Replacing
 pub mod RouteValues

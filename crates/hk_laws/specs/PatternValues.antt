@@ -12,6 +12,20 @@ pub data IsIdent : Data → Ident → Type 0 where
   versioned : (path version : Bytes) → is_path path ≡ true → is_version version ≡ true
       → IsIdent (array (two_items (string path) (string version))) (record { path = path; version = Some version })
 
+-- what a rule creates is a string, the path
+pub data IsCreated : Data → Ident → Type 0 where
+  created : (path : Bytes) → is_path path ≡ true → IsCreated (string path) (record { path = path; version = None })
+
+-- an array of them
+pub record AreCreated (d : Data) (made : List Ident) : Type 0 where
+  pub items : Items
+  pub array_is : d ≡ array items
+  pub listed : AreListed IsCreated items made
+
+-- a version is a string
+pub data IsVersion : Data → Bytes → Type 0 where
+  versioning : (text : Bytes) → is_version text ≡ true → IsVersion (string text) text
+
 -- the patterns, by what the patterns in them are
 pub data PatternRow (Inner : Data → Pattern → Type 0) : Data → Pattern → Type 0 where
   bare_glob : (glob : Bytes) → length glob ≤ 1024 → PatternRow Inner (string glob) (Glob glob)

@@ -1,6 +1,6 @@
 -- Wrong definitions, by what they make of one text, break the laws.
 use Rattle.std.specs.Prelude.{◌≡◌, ℕ, pos, true, false, List, [], ◌∷◌, Option, Some, codes, length, Result, Ok}
-use Rattle.toml.specs.Data.{Data, string, integer, boolean}
+use Rattle.toml.specs.Data.{Data, string, integer, boolean, array, no_items}
 use Rattle.hk_base.specs.Bytes.{Bytes}
 use Rattle.hk_chain.specs.declared.context.Order.{Order}
 use Rattle.hk_chain.specs.declared.context.Order.TheVariants.{Chronological}
@@ -16,6 +16,7 @@ use Rattle.hk_laws.specs.Cuttings.{CutsEach}
 use Rattle.hk_laws.specs.FirstUses.{used_numbers, NumbersByFirstUse}
 use Rattle.hk_laws.specs.Links.{LinksOfEach}
 use Rattle.hk_laws.specs.FieldValues.{IsCount, IsOrder}
+use Rattle.hk_laws.specs.ListValues.{IsChain}
 use Rattle.hk_laws.specs.PatternValues.{IsPattern}
 use Rattle.hk_laws.specs.RouteValues.{IsRoute}
 use Rattle.hk_laws.specs.StepValues.{IsStep}
@@ -44,7 +45,7 @@ abbrev pub PlacesZero : Type 0
 PlacesZero = (find : Bytes → Option TemplateFault) → find (codes "a$if(x)$") ≡ Some (Unclosed 0) → FindsFaults find → ⊥
 
 -- readings of single values of the rules file: `false` taken for no version, an extension of a dot alone, a step that needs a
--- file in a rule that creates its paths, a limit of 0, and one order for another
+-- file in a rule that creates its paths, a limit of 0, one order for another, and a chain without a step
 abbrev pub FalseIsNoVersion : Type 0
 FalseIsNoVersion = (read : Data → Option Pattern) → read (only_at (codes "no_version") (boolean false)) ≡ Some HasNoVersion → Reads read IsPattern → ⊥
 
@@ -59,6 +60,9 @@ NoneIsCount = (read : Data → Option ℕ) (n : ℕ) → read (integer (pos 0)) 
 
 abbrev pub RecentIsChronological : Type 0
 RecentIsChronological = (read : Data → Option Order) → read (string (codes "recent")) ≡ Some Chronological → Reads read IsOrder → ⊥
+
+abbrev pub NoSteps : Type 0
+NoSteps = (read : Data → Option (List DraftStep)) → read (array no_items) ≡ Some [] → Reads read (IsChain false) → ⊥
 
 -- readings of whole rules files: a pattern that nothing uses, and the second pattern before the first
 abbrev pub UnusedPattern : Type 0

@@ -1,7 +1,7 @@
 // Wrong definitions that the laws refuse.
-ghost use Rattle.hk_laws.specs.WrongDefinitions.{BodyOfCreated, CaseMatters, DotIsExtension, FalseIsNoVersion, NoComments, NoRawText, NoTags, NoneIsCount, PlacesZero, RecentIsChronological, SrcIsNoLink, TurnedPatterns, UnusedPattern};
+ghost use Rattle.hk_laws.specs.WrongDefinitions.{BodyOfCreated, CaseMatters, DotIsExtension, FalseIsNoVersion, NoComments, NoRawText, NoSteps, NoTags, NoneIsCount, PlacesZero, RecentIsChronological, SrcIsNoLink, TurnedPatterns, UnusedPattern};
 
-/// Five wrong scanners of tags, a wrong first fault of a template, five wrong readings of values of the rules file and two of
+/// Five wrong scanners of tags, a wrong first fault of a template, six wrong readings of values of the rules file and two of
 /// whole files break the laws. Does nothing.
 pub fn wrong_definitions_break_laws()
     ensures no_tags { NoTags }
@@ -15,6 +15,7 @@ pub fn wrong_definitions_break_laws()
     ensures no_body { BodyOfCreated }
     ensures no_zero { NoneIsCount }
     ensures no_turned { RecentIsChronological }
+    ensures no_empty { NoSteps }
     ensures no_unused { UnusedPattern }
     ensures no_later { TurnedPatterns }
 {}

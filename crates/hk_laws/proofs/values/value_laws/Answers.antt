@@ -1,5 +1,6 @@
 -- The laws of single values of the rules file hold.
 use Rattle.hk_laws.proofs.FieldValueLemmas
+use Rattle.hk_laws.proofs.ListValueLemmas
 use Rattle.hk_laws.proofs.PatternValueLemmas
 use Rattle.hk_laws.proofs.RouteValueLemmas
 use Rattle.hk_laws.proofs.StepValueLemmas
@@ -25,3 +26,15 @@ returns-clause-fields c = FieldValueLemmas.reads_fields
 
 pub returns-clause-orders : goal.returns-clause-orders
 returns-clause-orders c usual = FieldValueLemmas.reads_orders
+
+pub returns-clause-chains : goal.returns-clause-chains
+returns-clause-chains c = ListValueLemmas.reads_chains
+
+pub returns-clause-contexts : goal.returns-clause-contexts
+returns-clause-contexts c = ListValueLemmas.reads_contexts
+
+pub returns-clause-paths : goal.returns-clause-paths
+returns-clause-paths c = PatternValueLemmas.reads_paths
+
+pub returns-clause-versions : goal.returns-clause-versions
+returns-clause-versions c = PatternValueLemmas.reads_versions

@@ -41,3 +41,6 @@ returns-clause-no_unused c = RefusingReadings.unused_pattern
 
 pub returns-clause-no_later : goal.returns-clause-no_later
 returns-clause-no_later c = RefusingReadings.turned_patterns
+
+pub returns-clause-no_empty : goal.returns-clause-no_empty
+returns-clause-no_empty c = RefusingReadings.no_steps
