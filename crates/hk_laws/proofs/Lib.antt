@@ -2,6 +2,7 @@
 pub mod CutLemmas
 pub mod DateLemmas
 pub mod FaultLemmas
+pub mod FieldPlaceLemmas
 pub mod FieldValueLemmas
 pub mod FileUseLemmas
 pub mod FirstLemmas

@@ -1,6 +1,7 @@
 -- The laws, in the words of their subjects.
 pub mod Cuttings
 pub mod DatePatterns
+pub mod FieldPlaces
 pub mod FieldValues
 pub mod FirstUses
 pub mod Letters
