@@ -1,5 +1,5 @@
 -- Wrong definitions, by what they make of one text, break the laws.
-use Rattle.std.specs.Prelude.{◌≡◌, ℕ, pos, true, false, List, [], ◌∷◌, Option, Some, codes, length, Result, Ok}
+use Rattle.std.specs.Prelude.{◌≡◌, ℕ, pos, true, false, List, [], ◌∷◌, Option, Some, codes, length, Result, Ok, None}
 use Rattle.toml.specs.Data.{Data, string, integer, boolean, array, no_items}
 use Rattle.hk_base.specs.Bytes.{Bytes}
 use Rattle.hk_chain.specs.declared.context.Order.{Order}
@@ -20,7 +20,7 @@ use Rattle.hk_laws.specs.ListValues.{IsChain}
 use Rattle.hk_laws.specs.PatternValues.{IsPattern}
 use Rattle.hk_laws.specs.RouteValues.{IsRoute}
 use Rattle.hk_laws.specs.StepValues.{IsStep}
-use Rattle.hk_laws.specs.Templates.{FindsFaults}
+use Rattle.hk_laws.specs.Templates.{FindsFaults, MissesNoFault}
 use Rattle.hk_laws.specs.Values.{Reads, only_at}
 
 -- a scanner for which nothing is a tag, one for which comments aren't comments, and one without raw text
@@ -43,6 +43,10 @@ CaseMatters = (links : Bytes → List Bytes) → links (codes "<a SRC=x>") ≡ [
 -- a first fault whose place is 0
 abbrev pub PlacesZero : Type 0
 PlacesZero = (find : Bytes → Option TemplateFault) → find (codes "a$if(x)$") ≡ Some (Unclosed 0) → FindsFaults find → ⊥
+
+-- a first fault that is never found
+abbrev pub NoFaults : Type 0
+NoFaults = (find : Bytes → Option TemplateFault) → find (codes "$if(x)$") ≡ None → MissesNoFault find → ⊥
 
 -- readings of single values of the rules file: `false` taken for no version, an extension of a dot alone, a step that needs a
 -- file in a rule that creates its paths, a limit of 0, one order for another, and a chain without a step

@@ -44,3 +44,6 @@ returns-clause-no_later c = RefusingReadings.turned_patterns
 
 pub returns-clause-no_empty : goal.returns-clause-no_empty
 returns-clause-no_empty c = RefusingReadings.no_steps
+
+pub returns-clause-no_misses : goal.returns-clause-no_misses
+returns-clause-no_misses c = Refusing.no_faults
