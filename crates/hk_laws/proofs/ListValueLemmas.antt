@@ -85,7 +85,7 @@ items_chain created ds steps e =
     let tests = and_parts (nat_le 1 (count_items ds)) (nat_le (count_items ds) 64) count in
     record {
       items = ds;
-      listed = refl;
+      array_is = refl;
       each = all;
       some = subst (λ n. 1 ≤ n) (count_is (IsStep created) ds steps all) (le_is 1 (count_items ds) tests.0);
       short = subst (λ n. n ≤ 64) (count_is (IsStep created) ds steps all) (le_is (count_items ds) 64 tests.1);
@@ -100,7 +100,7 @@ is_chain : (created : Bool) (d : Data) (steps : List DraftStep) → IsChain crea
 is_chain created d steps is =
     let size = count_is (IsStep created) is.items steps is.each in
     let count : fits_chain (count_items is.items) ≡ true = ap fits_chain size ∙ both (nat_le 1 (length steps)) (nat_le (length steps) 64) (is_le 1 (length steps) is.some) (is_le (length steps) 64 is.short) in
-    ap (λ t. steps_by created (as_array t)) is.listed
+    ap (λ t. steps_by created (as_array t)) is.array_is
     ∙ ap (λ b. if b then few_saves (each (step_of created) is.items) else None) count
     ∙ ap few_saves (is_each (step_of created) (IsStep created) (reads_steps created) is.items steps is.each)
     ∙ ap (λ b. if b then Some steps else None) (fits_in saves_of pages_saved saved_same 16 steps is.few)
@@ -121,7 +121,7 @@ items_context ds fields e =
     where_true (IsContext (only_at (codes "fields") (array ds)) fields) (fits_context (count_items ds)) (not_wide (each field_of ds)) fields
     (λ count few.
     let is = fields_few (each field_of ds) fields few in
-    record { items = ds; listed = refl; each = each_is field_of IsField reads_fields ds fields is.0; few = is.1 }) e
+    record { items = ds; table_is = refl; each = each_is field_of IsField reads_fields ds fields is.0; few = is.1 }) e
 
 array_context : (d : Data) (fields : List DraftField) (o : Option Items) → as_array d ≡ o → fields_by o ≡ Some fields → IsContext (only_at (codes "fields") d) fields
 array_context d fields None at e = let no_ : ⊥ = cc in absurd no_
@@ -145,7 +145,7 @@ is_context d fields is =
     let many = many_meant fields in
     let few = is.few in
     let count : fits_context (count_items is.items) ≡ true = is_le (count_items is.items) 64 (omega (arith, size, many, few)) in
-    ap context_fields is.listed
+    ap context_fields is.table_is
     ∙ ap (λ b. if b then not_wide (each field_of is.items) else None) count
     ∙ ap not_wide (is_each field_of IsField reads_fields is.items fields is.each)
     ∙ ap (λ b. if b then Some fields else None) (fits_in width fields_meant meant_same 64 fields is.few)

@@ -26,7 +26,7 @@ fields_meant _ = 1
 -- an array of 1 to 64 steps, of which at most 16 save
 pub record IsChain (created : Bool) (d : Data) (steps : List DraftStep) : Type 0 where
   pub items : Items
-  pub listed : d ≡ array items
+  pub array_is : d ≡ array items
   pub each : AreEach (IsStep created) items steps
   pub some : 1 ≤ length steps
   pub short : length steps ≤ 64
@@ -35,6 +35,6 @@ pub record IsChain (created : Bool) (d : Data) (steps : List DraftStep) : Type 0
 -- a table with the key `fields` alone, an array of members that stand for at most 64 fields
 pub record IsContext (d : Data) (fields : List DraftField) : Type 0 where
   pub items : Items
-  pub listed : d ≡ only_at (codes "fields") (array items)
+  pub table_is : d ≡ only_at (codes "fields") (array items)
   pub each : AreEach IsField items fields
   pub few : total fields_meant fields ≤ 64

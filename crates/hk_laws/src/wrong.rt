@@ -1,5 +1,6 @@
 // Wrong definitions that the laws refuse.
-ghost use Rattle.hk_laws.specs.WrongDefinitions.{BodyOfCreated, CaseMatters, DotIsExtension, FalseIsNoVersion, NoComments, NoFaults, NoRawText, NoSteps, NoTags, NoneIsCount, PlacesZero, RecentIsChronological, SrcIsNoLink, TurnedPatterns, UnusedPattern};
+ghost use Rattle.hk_laws.specs.WrongDefinitions.{BodyOfCreated, CaseMatters, DotIsExtension, FalseIsNoVersion, NoComments, NoFaults, NoRawText};
+ghost use Rattle.hk_laws.specs.WrongDefinitions.{NoSteps, NoTags, NoneIsCount, PlacesZero, RecentIsChronological, SrcIsNoLink, TurnedPatterns, UnusedPattern};
 
 /// Five wrong scanners of tags, two wrong first faults of a template, six wrong readings of values of the rules file and two of
 /// whole files break the laws. Does nothing.
