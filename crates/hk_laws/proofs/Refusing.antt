@@ -1,15 +1,18 @@
 -- Wrong definitions break the laws.
-use Rattle.std.proofs.Common.{◌≡◌, ℕ, ◌≤◌, ◌+◌, List, [], ◌∷◌, ◌++◌, codes, length, refl, sym, ap, subst, ◌∙◌, arith, inl, inr}
+use Rattle.std.proofs.Common.{◌≡◌, ℕ, ◌≤◌, ◌+◌, List, [], ◌∷◌, ◌++◌, codes, length, refl, sym, ap, subst, ◌∙◌, arith, inl, inr, Some}
 use Rattle.hk_base.specs.Bytes.{Bytes}
 use Rattle.hk_html.specs.Part.{mark, valued}
 use Rattle.hk_html.specs.Piece.{Piece, tag, pieces}
 use Rattle.hk_template.specs.declared.fault.TemplateFault.TheVariants.{Unclosed}
+use Rattle.hk_template.proofs.Grammar.{tree_or_fault}
+use Rattle.hk_template.specs.Cut.{word_of, tag_of, token_at, cut}
+use Rattle.hk_template.specs.Fault.{first_fault}
 use Rattle.hk_template.specs.Token.{Token, token_text}
 use Rattle.hk_laws.specs.Letters.{SameLetter, SameLetters}
 use Rattle.hk_laws.specs.Cuttings.{IsCutting, HasRawText}
 use Rattle.hk_laws.specs.Links.{HasLinks}
 use Rattle.hk_laws.specs.Templates.{IsForm, form_if, form_for}
-use Rattle.hk_laws.specs.WrongDefinitions.{NoTags, NoComments, NoRawText, SrcIsNoLink, CaseMatters, PlacesZero}
+use Rattle.hk_laws.specs.WrongDefinitions.{NoTags, NoComments, NoRawText, SrcIsNoLink, CaseMatters, PlacesZero, NoFaults}
 use Rattle.hk_laws.proofs.CutLemmas.{cuts_each}
 
 pub nothing_is_a_tag : NoTags
@@ -73,3 +76,12 @@ places_zero find e laws =
     let first = form_first is.token is.end is.form in
     let at : codes "a$if(x)$" ≡ 36 ∷ (first.0 ++ is.there.more) = rest ∙ is.there.spelled ∙ ap (λ (t : Bytes). t ++ is.there.more) first.1 in
     let no_ : ⊥ = cc in no_
+
+open_if : first_fault (codes "$if(x)$") ≡ Some (Unclosed 0)
+unfolding first_fault cut token_at tag_of word_of
+open_if = refl
+
+pub no_faults : NoFaults
+no_faults find none laws =
+    let is = laws (codes "$if(x)$") none in
+    (tree_or_fault (codes "$if(x)$")).1 (Unclosed 0) open_if is.0 is.1

@@ -1,5 +1,5 @@
 -- The first fault of a template, without a stack.
-use Rattle.std.specs.Prelude.{◌≡◌, ℕ, Bool, true, false, ◌⊎◌, List, ◌++◌, length, codes, Option, Some}
+use Rattle.std.specs.Prelude.{◌≡◌, ℕ, Bool, true, false, ◌⊎◌, List, ◌++◌, length, codes, Option, Some, None}
 use Rattle.std.specs.List.{flat_map, list_all}
 use Rattle.hk_base.specs.Bytes.{Bytes}
 use Rattle.hk_template.specs.Token.{if_, for_, Token, tag, token_text, is_token, texts_apart}
@@ -94,3 +94,7 @@ IsFault bytes (Unclosed place) = IsUnclosed bytes place
 -- each fault that is found is the first
 abbrev pub FindsFaults : (Bytes → Option TemplateFault) → Type 0
 FindsFaults find = (bytes : Bytes) (fault : TemplateFault) → find bytes ≡ Some fault → IsFault bytes fault
+
+-- and where none is found there is a tree
+abbrev pub MissesNoFault : (Bytes → Option TemplateFault) → Type 0
+MissesNoFault find = (bytes : Bytes) → find bytes ≡ None → (tree : Nodes) × IsTemplate bytes tree
