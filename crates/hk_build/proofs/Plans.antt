@@ -30,6 +30,7 @@ use Rattle.hk_rules_file.specs.contracts.rules.Rule as rule
 use Rattle.hk_rules_file.specs.contracts.rules.RuleSource as source
 use Rattle.hk_rules_file.proofs.tables.FeedKind.TheSendSync as kind
 use Rattle.hk_rules_file.specs.contracts.tables.FeedRule as feed
+use Rattle.hk_rules.proofs.matched.Matched.TheSendSync as matched
 use Rattle.hk_rules.proofs.source_file.SourceFile.TheSendSync as file
 use Rattle.hk_rules.specs.contracts.owner.Owner as owner
 use Rattle.hk_rules.specs.contracts.plan.Plan as plan
@@ -91,7 +92,7 @@ owner_send : IsSend owner.the_row
 owner_send = declared_send owner.the_type (shared.the_send rule.the_row rule_send rule_sync, (option.the_send (Shared.the_row SourceFile.the_row) (shared.the_send SourceFile.the_row file.the_send file.the_sync), tt))
 
 inside_send : IsSend inside.the_row
-inside_send = declared_send inside.the_type (Vec-send (Tuple (Ident.the_row ∷ owner.the_row ∷ [])) (declared_send (tuple_type (Ident.the_row ∷ owner.the_row ∷ [])) (as_row_send (row_field _) ident.the_send, (as_row_send (row_field _) owner_send, tt))), (Vec-send _ split.the_send, (Vec-send _ (option.the_send Text.the_row text.the_send), (Vec-send _ context.the_send, (Vec-send _ pattern_send, (Vec-send _ feed_send, (shared.the_send Layout.the_row layout.the_send layout.the_sync, tt)))))))
+inside_send = declared_send inside.the_type (Vec-send (Tuple (Ident.the_row ∷ owner.the_row ∷ [])) (declared_send (tuple_type (Ident.the_row ∷ owner.the_row ∷ [])) (as_row_send (row_field _) ident.the_send, (as_row_send (row_field _) owner_send, tt))), (Vec-send _ split.the_send, (Vec-send _ (option.the_send Text.the_row text.the_send), (Vec-send _ context.the_send, (Vec-send _ pattern_send, (Vec-send _ feed_send, (shared.the_send Layout.the_row layout.the_send layout.the_sync, (Vec-send _ matched.the_send, tt))))))))
 
 pub plan_send : IsSend plan.the_row
 plan_send = view_send _ _ _ _ _ inside_send
@@ -103,7 +104,7 @@ owner_sync : IsSync owner.the_row
 owner_sync = declared_sync owner.the_type (shared.the_sync rule.the_row rule_send rule_sync, (option.the_sync (Shared.the_row SourceFile.the_row) (shared.the_sync SourceFile.the_row file.the_send file.the_sync), tt))
 
 inside_sync : IsSync inside.the_row
-inside_sync = declared_sync inside.the_type (Vec-sync (Tuple (Ident.the_row ∷ owner.the_row ∷ [])) (declared_sync (tuple_type (Ident.the_row ∷ owner.the_row ∷ [])) (as_row_sync (row_field _) ident.the_sync, (as_row_sync (row_field _) owner_sync, tt))), (Vec-sync _ split.the_sync, (Vec-sync _ (option.the_sync Text.the_row text.the_sync), (Vec-sync _ context.the_sync, (Vec-sync _ pattern_sync, (Vec-sync _ feed_sync, (shared.the_sync Layout.the_row layout.the_send layout.the_sync, tt)))))))
+inside_sync = declared_sync inside.the_type (Vec-sync (Tuple (Ident.the_row ∷ owner.the_row ∷ [])) (declared_sync (tuple_type (Ident.the_row ∷ owner.the_row ∷ [])) (as_row_sync (row_field _) ident.the_sync, (as_row_sync (row_field _) owner_sync, tt))), (Vec-sync _ split.the_sync, (Vec-sync _ (option.the_sync Text.the_row text.the_sync), (Vec-sync _ context.the_sync, (Vec-sync _ pattern_sync, (Vec-sync _ feed_sync, (shared.the_sync Layout.the_row layout.the_send layout.the_sync, (Vec-sync _ matched.the_sync, tt))))))))
 
 pub plan_sync : IsSync plan.the_row
 plan_sync = view_sync _ _ _ _ _ inside_sync

@@ -16,7 +16,7 @@ use Rattle.hk_words.specs.Words.{command}
 use Rattle.hk_app.specs.declared.status.Status.{Status}
 use Rattle.hk_app.specs.declared.status.Status.TheVariants.{Ok as Done, Report}
 use Rattle.hk_app.specs.Promise.{Builds, EndsStopped, EndsWhole, IsDone, IsPlanOf, IsStopped, Reports, Says}
-use Rattle.hk_app.specs.Site.{Reading, absent, planned, refused, unplanned}
+use Rattle.hk_app.specs.FolderReading.{Reading, absent, planned, refused, unplanned}
 use Rattle.hk_app.specs.Standing.{store_path}
 use Rattle.hk_app.specs.Taking.{IsTakenOf, Taken, Takes}
 use Rattle.hk_app.specs.World.{Folders}

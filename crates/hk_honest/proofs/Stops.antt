@@ -17,7 +17,7 @@ use Rattle.hk_app.specs.declared.status.Status.{Status}
 use Rattle.hk_app.specs.declared.status.Status.TheVariants.{Ok as Done, Report, Usage, BadRules, BadSite, ReadFault, WriteFault, StoreFault, OutFault, NoMemory, BadLinks}
 use Rattle.hk_app.specs.Promise.{IsBadLinks, IsBadRules, IsBadSite, IsPast, IsPlanOf, IsRefused, IsStoreFault, IsUnplanned, IsWriteFault, Leaves, Promise, Runs, StoreLeft, StopsBuild, StopsClean}
 use Rattle.hk_app.specs.Promise.{unsaved, saved, torn_store, unbegun, partly, torn_site, past, clearing_site, clearing_cache}
-use Rattle.hk_app.specs.Site.{Reading, planned, reading}
+use Rattle.hk_app.specs.FolderReading.{Reading, planned, reading}
 use Rattle.hk_app.specs.Standing.{LostSome, Same, store_path}
 use Rattle.hk_app.specs.Taking.{IsTakenOf, Taken, Takes, nothing}
 use Rattle.hk_app.specs.World.{Folders, Output}

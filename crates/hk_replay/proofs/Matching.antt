@@ -234,9 +234,6 @@ fits-some plan m n e =
     ap (λ k. (nat_lt k (length plan.patterns) && bytes_eq (text_of (pattern_at plan k)) m.text) && pointwise (eq_by_cmp ident_cmp) (map (id_at plan) (matches_in plan.items (pattern_at plan k))) m.matches) number
     ∙ (ap (λ b. (b && bytes_eq (text_of (pattern_at plan n)) m.text) && rest) less ∙ ap (λ b. (true && b) && rest) text)
 
-pub matched-at : (plan : PlanView) (matches : List (List ℕ)) (n : ℕ) → matches ≡ map (matches_in plan.items) plan.patterns → n < length plan.patterns → get_or matches n [] ≡ matches_in plan.items (pattern_at plan n)
-matched-at plan matches n e lt = ap (λ l. get_or l n []) e ∙ get_or-map (matches_in plan.items) plan.patterns n HasNoVersion [] lt
-
 -- ---- one more entry's record
 
 get-set : {A : Type 0} (xs : List A) (i j : ℕ) (x d : A) → i < length xs → get_or (slice_set xs i x) j d ≡ cond (nat_eq i j) x (get_or xs j d)

@@ -110,7 +110,7 @@ fn pattern_fits(plan: &Plan, known: &Known, found: &MatchRecord) -> bool
     ensures { result ≡ spec.pattern_fits (items_of plan.now) found.now }
 {
     match known.place(found.text.as_slice()) {
-        Some(place) => are_same(plan, known.matched(place), &found.matches),
+        Some(number) => are_same(plan, plan.matches(number), &found.matches),
         None => false,
     }
 }

@@ -1,13 +1,12 @@
 // What is known of a plan before entries are held against it.
-ghost use Rattle.std.specs.Prelude.{◌≡◌, ◌<◌, ℕ, [], length, map, get_or, bytes_eq, IfOk};
+ghost use Rattle.std.specs.Prelude.{◌≡◌, ◌<◌, ℕ, [], length, get_or, bytes_eq, IfOk};
 ghost use Rattle.std.specs.List.{position_from};
-ghost use Rattle.hk_rules.specs.Plan.{matches_in};
 ghost use Rattle.hk_eval.specs.PlanTable.{traits_at, pattern_texts};
 ghost use Rattle.hk_store.specs.Traits.{sha_digests};
 ghost use Rattle.hk_replay.specs.Known.{IsKnown};
 
 use crate::hashing::PageDigests;
-use crate::texts::PatternTexts;
+use crate::texts::{PatternTexts, pattern_no};
 use hk_base::{NoMemory, Text};
 use hk_chain::{ItemNo, PatternNo};
 use hk_rules::{Plan, text_of_pattern};
@@ -15,28 +14,13 @@ use hk_store::{fingerprint_digests, traits_digest};
 use std::alloc::Global;
 use std::marker::Model;
 
-/// The items that a pattern matches.
-#[derive(Drop)]
-pub(crate) struct Matched {
-    pub(crate) items: Vec<ItemNo>,
-}
-
-impl Model for Matched {
-    ghost use Rattle.std.specs.Prelude.{ℕ, List};
-
-    ghost Value = { List ℕ };
-
-    ghost view = { λ m. m.items.items };
-}
-
-/// The digests of each item's fingerprint and traits, each pattern's text and matches, and the digests of pages, as far as
-/// they were wanted.
+/// The digests of each item's fingerprint and traits, each pattern's text, and the digests of pages, as far as they were
+/// wanted.
 #[derive(Drop)]
 pub(crate) struct Known {
     pub(crate) prints: Vec<[u8; 32]>,
     pub(crate) traits: Vec<[u8; 32]>,
     pub(crate) texts: PatternTexts,
-    pub(crate) matches: Vec<Matched>,
     pub(crate) digests: PageDigests,
 }
 
@@ -45,42 +29,32 @@ impl Model for Known {
 
     ghost Value = { KnownView };
 
-    ghost view = { λ k. record { prints = k.prints.items; traits = k.traits.items; texts = k.texts; matches = k.matches.items } };
+    ghost view = { λ k. record { prints = k.prints.items; traits = k.traits.items; texts = k.texts } };
 }
 
 impl Known {
     /// What is known of a plan. `NoMemory` only for want of memory. Linear in the items' fingerprints and metadata, each of
-    /// which is hashed once, in the pairs and in the patterns' texts; each pattern is matched once.
+    /// which is hashed once, in the pairs and in the patterns' texts.
     pub(crate) fn of(alloc: Global, plan: &Plan) -> Result<Known, NoMemory>
         ensures { IfOk result (λ k. IsKnown plan.now k) }
     {
         let prints = fingerprint_digests(alloc, plan)?;
         let traits = all_traits(alloc, plan)?;
         let texts = PatternTexts::of(alloc, texts_of(alloc, plan)?)?;
-        let matches = matches_of(alloc, plan)?;
         let digests = PageDigests::new(alloc, plan.layout().get().pairs())?;
         Ok(Known {
             prints,
             traits,
             texts,
-            matches,
             digests,
         })
     }
 
-    /// The first place of a pattern's text. Logarithmic in the number of patterns.
-    pub(crate) fn place(&self, text: &[u8]) -> Option<usize>
+    /// The first pattern with this text. Logarithmic in the number of patterns.
+    pub(crate) fn place(&self, text: &[u8]) -> Option<PatternNo>
         ensures { result ≡ position_from (λ own. bytes_eq own text.now) 0 self.now.texts }
     {
         self.texts.place(text)
-    }
-
-    /// The items that the pattern at a place matches. Constant.
-    pub(crate) fn matched(&self, place: usize) -> &[ItemNo]
-        requires { place < length self.now.matches }
-        ensures { result.now ≡ get_or self.now.matches place [] }
-    {
-        &self.matches[place].items
     }
 
     /// The text of the pattern at a place. Constant.
@@ -150,27 +124,4 @@ fn texts_of(alloc: Global, plan: &Plan) -> Result<Vec<Text>, NoMemory>
         texts.push(text)?;
     }
     Ok(texts)
-}
-
-/// The items that the patterns match.
-fn matches_of(alloc: Global, plan: &Plan) -> Result<Vec<Matched>, NoMemory>
-    ensures { IfOk result (λ v. v.items ≡ map (matches_in plan.now.items) plan.now.patterns) }
-{
-    let mut matches = Vec::new(alloc);
-    for number in 0..plan.pattern_count() {
-        let pattern = pattern_no(number)?;
-        let items = plan.matches(alloc, pattern)?;
-        matches.push(Matched { items })?;
-    }
-    Ok(matches)
-}
-
-/// The number of a pattern. More patterns than there are numbers count as want of memory.
-pub(crate) fn pattern_no(number: usize) -> Result<PatternNo, NoMemory>
-    ensures { IfOk result (λ p. p ≡ number) }
-{
-    match u32::try_from(number) {
-        Ok(number) => Ok(PatternNo(number)),
-        Err(_) => Err(NoMemory),
-    }
 }

@@ -17,7 +17,7 @@ ghost use Rattle.hk_replay.specs.Numbered.{AreNumbered, numbered_by, numbered_en
 ghost use Rattle.hk_replay.specs.PlanItems.{items_of};
 
 use crate::fitting::fits;
-use crate::known::{Known, pattern_no};
+use crate::known::Known;
 use crate::record::{Record, Records, Step};
 use hk_base::{Identifier, NoMemory, Shared, Text};
 use hk_chain::{ItemNo, Kind, Page, PageRef, PairNo, PatternNo};
@@ -210,17 +210,17 @@ fn numbers_of(
 {
     let mut numbers = Vec::with_capacity(alloc, records.len())?;
     for found in records {
-        let number = number_of(known, found)?;
+        let number = number_of(known, found);
         numbers.push(number)?;
     }
     Ok(numbers)
 }
 
 /// The number of a recorded pattern, and the first where there is none. Logarithmic in the number of patterns.
-fn number_of(known: &Known, found: &MatchRecord) -> Result<PatternNo, NoMemory>
-    ensures { IfOk result (λ p. p ≡ unwrap_or (position_from (λ own. bytes_eq own found.now.text) 0 known.now.texts) 0) }
+fn number_of(known: &Known, found: &MatchRecord) -> PatternNo
+    ensures { result ≡ unwrap_or (position_from (λ own. bytes_eq own found.now.text) 0 known.now.texts) 0 }
 {
-    pattern_no(known.place(found.text.as_slice()).unwrap_or(0))
+    known.place(found.text.as_slice()).unwrap_or(PatternNo(0))
 }
 
 /// The page of the last mark, which is empty where that isn't a save.

@@ -122,9 +122,8 @@ fn match_of(
     requires number { number < length plan.now.patterns }
     ensures { IfOk result (λ m. m ≡ match_view (table_of plan.now) number) }
 {
-    let place = number.0 as usize;
-    let text = Text::from_slice(alloc, known.text(place))?;
-    let matches = ids_of(alloc, plan, known.matched(place))?;
+    let text = Text::from_slice(alloc, known.text(number.0 as usize))?;
+    let matches = ids_of(alloc, plan, plan.matches(number))?;
     Ok(MatchRecord { text, matches })
 }
 

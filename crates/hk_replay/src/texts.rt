@@ -4,15 +4,16 @@ ghost use Rattle.std.specs.List.{position_from};
 ghost use Rattle.hk_replay.specs.Places.{AreFirst};
 
 use hk_base::{NoMemory, Text};
+use hk_chain::PatternNo;
 use std::alloc::Global;
 use std::collections::BTreeMap;
 use std::marker::Model;
 
-/// Texts, with the first place of each.
+/// The texts of patterns, with the first pattern of each text.
 #[derive(Drop)]
 pub(crate) struct PatternTexts {
     texts: Vec<Text>,
-    places: BTreeMap<Vec<u8>, usize>,
+    places: BTreeMap<Vec<u8>, PatternNo>,
 }
 
 impl Model for PatternTexts {
@@ -36,8 +37,8 @@ impl PatternTexts {
         Ok(PatternTexts { texts, places })
     }
 
-    /// The first place of a text. Logarithmic in the number of texts.
-    pub(crate) fn place(&self, text: &[u8]) -> Option<usize>
+    /// The first pattern with this text. Logarithmic in the number of texts.
+    pub(crate) fn place(&self, text: &[u8]) -> Option<PatternNo>
         ensures { result ≡ position_from (λ own. bytes_eq own text.now) 0 self.now }
     {
         self.places.get(text).copied()
@@ -52,16 +53,27 @@ impl PatternTexts {
     }
 }
 
-/// The first place of each text.
-fn places_of(alloc: Global, texts: &[Text]) -> Result<BTreeMap<Vec<u8>, usize>, NoMemory>
+/// The first pattern of each text.
+fn places_of(alloc: Global, texts: &[Text]) -> Result<BTreeMap<Vec<u8>, PatternNo>, NoMemory>
     ensures { IfOk result (λ m. AreFirst texts.now m.entries) }
 {
     let mut places = BTreeMap::new(alloc);
     let mut at = texts.len();
     while at > 0 {
         at -= 1;
+        let number = pattern_no(at)?;
         let text = Vec::from_slice(alloc, texts[at].as_slice())?;
-        places.insert(text, at)?;
+        places.insert(text, number)?;
     }
     Ok(places)
+}
+
+/// The number of a pattern. More patterns than there are numbers count as want of memory.
+pub(crate) fn pattern_no(number: usize) -> Result<PatternNo, NoMemory>
+    ensures { IfOk result (λ p. p ≡ number) }
+{
+    match u32::try_from(number) {
+        Ok(number) => Ok(PatternNo(number)),
+        Err(_) => Err(NoMemory),
+    }
 }

@@ -21,7 +21,8 @@ use Rattle.hk_fix.specs.Table.{Key, no_traits, IsTable}
 use Rattle.hk_reuse.specs.Example.{loaded, first_id, second_id, id_at, find, pair_of, table, text_page, deed_at, text_at, site, kind_code, digests, page_text, same_page_text, other_page_text, entries}
 use Rattle.hk_reuse.specs.Kept.{outdated}
 use Rattle.hk_reuse.specs.Rebuilt.{rebuilt, reendings, ArePlansApart}
-use Rattle.hk_reuse.specs.Site.{final_name, clean_run, IsSite, UsesItsOwn}
+use Rattle.hk_reuse.specs.Site.{clean_run, IsSite, UsesItsOwn}
+use Rattle.hk_chain.specs.Names.{final_name}
 
 shape : IsShape table.layout
 shape =

@@ -26,7 +26,8 @@ use Rattle.hk_reuse.specs.Entries.{Entries, front, last_page, saved_names, AskOn
 use Rattle.hk_reuse.specs.Fits.{ask_fits, mark_fits, pattern_fits, fits}
 use Rattle.hk_reuse.specs.Replay.{Attempt, through, broke, same_pages, asked_pairs, pattern_numbers, without, note_all, finish, attempt, attempt_of, replay_by}
 use Rattle.hk_reuse.specs.Rebuilt.{replay_of, replay, replay_run}
-use Rattle.hk_reuse.specs.Site.{final_name, pair_named, Items, own_pairs, Site, items_of, shape_of, IsSite}
+use Rattle.hk_reuse.specs.Site.{pair_named, Items, own_pairs, Site, items_of, shape_of, IsSite}
+use Rattle.hk_chain.specs.Names.{final_name}
 use Rattle.hk_reuse.proofs.Lists.{all-in-left}
 use Rattle.hk_reuse.proofs.Finishes.{apart-rest, all-moved}
 use Rattle.hk_reuse.proofs.Tests.{and-both, list-same, some-or}

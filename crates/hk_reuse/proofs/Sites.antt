@@ -33,7 +33,8 @@ use Rattle.hk_reuse.specs.Entries.{front, page_of_mark, last_page, saved_names}
 use Rattle.hk_reuse.specs.Fits.{ask_fits, mark_fits, pattern_fits, fits}
 use Rattle.hk_reuse.specs.Image.{ask_view, mark_view, match_view, entry_by, entry_at, entries_of, image}
 use Rattle.hk_reuse.specs.Replay.{attempt, finish, pattern_numbers, replay_by}
-use Rattle.hk_reuse.specs.Site.{final_name, Site, items_of, shape_of, clean_run, no_seeds, built, endings, IsSite}
+use Rattle.hk_reuse.specs.Site.{Site, items_of, shape_of, clean_run, no_seeds, built, endings, IsSite}
+use Rattle.hk_chain.specs.Names.{final_name}
 use Rattle.hk_reuse.specs.Rebuilt.{replay_of, replay_run, rebuilt, reendings, TellApart, TextsTell, SameRun}
 use Rattle.hk_reuse.proofs.Lists.{firsts-map, firsts-twice, all-of-firsts, all-front, all-back}
 use Rattle.hk_reuse.proofs.Logs.{patterns_of-append, trace-append}

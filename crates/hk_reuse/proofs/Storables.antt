@@ -23,7 +23,8 @@ use Rattle.hk_store.specs.Entry.{MatchView, MarkView, asked, stored, EntryView}
 use Rattle.hk_store.specs.Stored.{is_page_name, keys_of_asks, asked_keys, saved_names, IsMark, IsEntry, ids_of, IsStored}
 use Rattle.hk_reuse.specs.Entries.{entries_in, AskOnce, LastSaves, IsFormed, AreFormed}
 use Rattle.hk_reuse.specs.Image.{page_at, match_view, ask_view, mark_view, entry_with, entry_by, entry_list}
-use Rattle.hk_reuse.specs.Site.{final_name, Items}
+use Rattle.hk_reuse.specs.Site.{Items}
+use Rattle.hk_chain.specs.Names.{final_name}
 use Rattle.hk_reuse.specs.Storable.{AreStorable}
 use Rattle.hk_reuse.proofs.Images.{last-saves, keys-differ}
 use Rattle.hk_reuse.proofs.Lists.{all-front, all-back, all-append}

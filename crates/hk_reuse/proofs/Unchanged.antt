@@ -32,7 +32,8 @@ use Rattle.hk_reuse.specs.Fits.{pattern_fits, is_own}
 use Rattle.hk_reuse.specs.Image.{page_at, match_view, ask_view, mark_view, entry_by, entry_at, image}
 use Rattle.hk_reuse.specs.Kept.{kept_among, is_kept, has_digest, is_unchanged, asks_unchanged}
 use Rattle.hk_reuse.specs.Rebuilt.{ArePlansApart}
-use Rattle.hk_reuse.specs.Site.{final_name, pair_named, Site, items_of, shape_of, clean_run, no_seeds, built, endings, IsSite, UsesItsOwn}
+use Rattle.hk_reuse.specs.Site.{pair_named, Site, items_of, shape_of, clean_run, no_seeds, built, endings, IsSite, UsesItsOwn}
+use Rattle.hk_chain.specs.Names.{final_name}
 use Rattle.hk_reuse.proofs.Cutoffs.{kept-if_unchanged}
 use Rattle.hk_reuse.proofs.Images.{image-formed}
 use Rattle.hk_reuse.proofs.Sites.{no-seeds, laws-of, trace-done, patterns-done, numbered-run, rebuilt-same}

@@ -11,7 +11,8 @@ use Rattle.hk_fix.specs.Table.{Key, no_traits, Table}
 use Rattle.hk_store.specs.Digests.{Digests}
 use Rattle.hk_reuse.specs.Entries.{Entries, blank_page}
 use Rattle.hk_reuse.specs.Image.{image}
-use Rattle.hk_reuse.specs.Site.{final_name, Site}
+use Rattle.hk_reuse.specs.Site.{Site}
+use Rattle.hk_chain.specs.Names.{final_name}
 
 abbrev pub first_id : Ident
 first_id = record { path = 97 ∷ []; version = None }

@@ -8,7 +8,8 @@ use Rattle.hk_fix.specs.Table.{Table}
 use Rattle.hk_store.specs.Digests.{Digests}
 use Rattle.hk_store.specs.Entry.{AskView, MatchView, MarkView, asked, stored, EntryView}
 use Rattle.hk_reuse.specs.Entries.{saved_names}
-use Rattle.hk_reuse.specs.Site.{final_name, Items}
+use Rattle.hk_reuse.specs.Site.{Items}
+use Rattle.hk_chain.specs.Names.{final_name}
 
 -- the pattern is one of the plan's and matches what was recorded
 abbrev pub pattern_fits : Items → MatchView → Bool

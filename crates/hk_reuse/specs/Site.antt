@@ -1,9 +1,10 @@
 -- A plan's items, and what a clean build makes of them.
-use Rattle.std.specs.Prelude.{◌≡◌, ℕ, ◌<◌, List, map, codes, Some, None}
+use Rattle.std.specs.Prelude.{◌≡◌, ℕ, ◌<◌, List, map, Some, None}
 use Rattle.std.specs.List.{AllByRecursion}
 use Rattle.hk_base.specs.Bytes.{Bytes}
 use Rattle.hk_base.specs.Identifier.{Ident}
 use Rattle.hk_chain.specs.Layout.{Shape, IsShape, final_of}
+use Rattle.hk_chain.specs.Names.{final_name}
 use Rattle.hk_chain.specs.Snapshots.{AreSnapshots}
 use Rattle.hk_fix.specs.Pages.{Pages, no_page}
 use Rattle.hk_chain.specs.declared.page.Page.{Page}
@@ -12,9 +13,6 @@ use Rattle.hk_fix.specs.Task.{Run, run}
 use Rattle.hk_fix.specs.Fix.{Seeds, Ending, fix, status}
 use Rattle.hk_fix.specs.Table.{Table, IsTable}
 use Rattle.hk_fix.specs.Deeds.{Deeds, pair_or, task_of, AreProper}
-
-abbrev pub final_name : Bytes
-final_name = codes "_final"
 
 -- the pair of a page of an item's own
 abbrev pub pair_named : Table → Ident → Bytes → ℕ

@@ -6,7 +6,8 @@ use Rattle.hk_base.specs.Bytes.{Bytes}
 use Rattle.hk_base.specs.Identifier.{ident_cmp}
 use Rattle.hk_chain.specs.Layout.{IsShape, pairs, item_of, final_of}
 use Rattle.hk_store.specs.Stored.{is_page_name}
-use Rattle.hk_reuse.specs.Site.{final_name, Items, AreItems}
+use Rattle.hk_reuse.specs.Site.{Items, AreItems}
+use Rattle.hk_chain.specs.Names.{final_name}
 
 -- the identifiers ascend, and so do the matches of a pattern; the key of a pair has the identifier of its item and the name
 -- of a page, that of a finished page for an item's last pair

@@ -1,5 +1,6 @@
 pub mod Claiming
 pub mod Clashing
+pub mod FirstRules
 pub mod Flagging
 mod Companions
 pub mod LinkedPlans

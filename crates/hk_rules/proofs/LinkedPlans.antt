@@ -65,7 +65,7 @@ map-all : {X Y : Type 0} (Q : Y → Type 0) (f : X → Y) → ((x : X) → Q (f 
 map-all Q f h [] = tt
 map-all Q f h (x ∷ xs) = (h x, map-all Q f h xs)
 
-source-owned : (P : Rule → Type 0) (sources : List (Bytes × SourceFile)) (rule : Rule) → P rule → (by : RuleSource) → AllByRecursion (Holds (Owned P)) (claims_by sources rule by)
+pub source-owned : (P : Rule → Type 0) (sources : List (Bytes × SourceFile)) (rule : Rule) → P rule → (by : RuleSource) → AllByRecursion (Holds (Owned P)) (claims_by sources rule by)
 source-owned P sources rule p (Match pattern) =
     map-all (Holds (Owned P)) (matched rule pattern)
     (λ s. holds-either (Owned P) (matches pattern s.0 None) (claim_at rule (Some s.1) s.0) None (claim-owned P (owner rule (Some s.1)) (read_ident s.0 rule.version) p) tt) sources

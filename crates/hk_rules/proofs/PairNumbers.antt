@@ -13,7 +13,8 @@ use Rattle.hk_chain.specs.declared.chain.Step.TheVariants.{Body, Str, Copy, Temp
 use Rattle.hk_chain.proofs.Spans.{layout-low, layout-final, layout-own, layout-near, layout-snapshots}
 use Rattle.hk_rules_file.specs.Linked.{IsLinkedChain}
 use Rattle.hk_rules.specs.LinkedPlan.{IsLinkedPlan, save_count, snapshots_of}
-use Rattle.hk_rules.specs.Pairs.{saved, saves, final_name, page_names, count_of, counts, layout, place_of, pair_at, name_at, name_before}
+use Rattle.hk_rules.specs.Pairs.{saved, saves, page_names, count_of, counts, layout, place_of_save, pair_at, name_at, name_before}
+use Rattle.hk_chain.specs.Names.{final_name}
 use Rattle.hk_rules.specs.Plan.{no_item, chain_at, last_pair, pair_of, pair_owner, pair_name_of}
 use Rattle.hk_rules.specs.PlanView.{PlanView}
 
@@ -101,7 +102,7 @@ record IsPlaced (plan : PlanView) (i : ℕ) (name : Bytes) (p : ℕ) : Type 0 wh
 
 placed : (plan : PlanView) (i : ℕ) (name : Bytes) (p : ℕ) → pair_of plan i name ≡ Some p → IsPlaced plan i name p
 placed plan i name p e =
-    let o = some-of (λ place. last_pair plan i - (save_count plan i - place)) (place_of (chain_at plan i) name) p e in
+    let o = some-of (λ place. last_pair plan i - (save_count plan i - place)) (place_of_save (chain_at plan i) name) p e in
     let at = position-at (λ own. bytes_eq own name) 0 (page_names (chain_at plan i)) o.0 o.1 in
     let same : o.0 ≡ at.0 = omega (arith, at.1) in
     record {
@@ -125,9 +126,9 @@ place-pair : (plan : PlanView) (i k : ℕ) (name : Bytes) → IsLinkedPlan plan 
 place-pair plan i k name h lt le d is =
     let names = page_names (chain_at plan i) in
     let within : k < length names = omega (arith, length-names (chain_at plan i)) in
-    let found : place_of (chain_at plan i) (get_or names k d) ≡ Some (0 + k) = position-distinct names k d 0 (plan-names plan i h lt) within in
+    let found : place_of_save (chain_at plan i) (get_or names k d) ≡ Some (0 + k) = position-distinct names k d 0 (plan-names plan i h lt) within in
     let place : 0 + k ≡ k = omega arith in
-    ap (λ o. option_map (λ place. last_pair plan i - (save_count plan i - place)) o) (ap (place_of (chain_at plan i)) (sym is) ∙ found ∙ ap Some place)
+    ap (λ o. option_map (λ place. last_pair plan i - (save_count plan i - place)) o) (ap (place_of_save (chain_at plan i)) (sym is) ∙ found ∙ ap Some place)
 
 -- the pair of the save at a place
 pub pair_of-saved : (plan : PlanView) (i k : ℕ) (d : Bytes) → IsLinkedPlan plan → i < length plan.items → k < save_count plan i → pair_of plan i (get_or (saves (chain_at plan i)) k d) ≡ Some ((last_pair plan i - save_count plan i) + k)

@@ -4,6 +4,7 @@ pub use Rattle.hk_rules_file.specs.Rules
 pub use Rattle.hk_rules_file.specs.RulesForm
 pub use Rattle.hk_rules_file.specs.declared.fault.RulesFault
 pub mod Clashes
+pub mod FirstRule
 pub mod Flags
 pub mod Headers
 pub mod LinkedPlan

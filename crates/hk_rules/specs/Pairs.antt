@@ -8,7 +8,7 @@ use Rattle.hk_chain.specs.Layout.{Shape}
 use Rattle.hk_chain.specs.declared.chain.Step.{Step}
 use Rattle.hk_rules.specs.declared.owner.Owner.{Owner}
 pub use Rattle.hk_rules_file.specs.Saves.{saved, saves, page_names}
-pub use Rattle.hk_steps.specs.StepForm.{final_name}
+use Rattle.hk_chain.specs.Names.{final_name}
 
 -- an item's chain has 64 steps at most
 abbrev pub IsShort : Ident × Owner → Type 0
@@ -25,12 +25,12 @@ abbrev pub layout : List (Ident × Owner) → Shape
 layout items = layout_of (counts items)
 
 -- the place of a name among those of a chain
-abbrev pub place_of : List Step → Bytes → Option ℕ
-place_of steps name = position_from (λ own. bytes_eq own name) 0 (page_names steps)
+abbrev pub place_of_save : List Step → Bytes → Option ℕ
+place_of_save steps name = position_from (λ own. bytes_eq own name) 0 (page_names steps)
 
 -- the pair of an item with a name, counted back from the item's last pair
 abbrev pub pair_at : ℕ → List Step → Bytes → Option ℕ
-pair_at last steps name = option_map (λ place. last - (length (saves steps) - place)) (place_of steps name)
+pair_at last steps name = option_map (λ place. last - (length (saves steps) - place)) (place_of_save steps name)
 
 -- the name at a place, the finished page's after all others
 abbrev pub name_at : List Step → ℕ → Bytes

@@ -11,7 +11,7 @@ use hk_chain::ItemNo;
 use std::cmp::Ordering;
 
 /// The number of the item with this identifier. Logarithmic.
-pub(crate) fn place_of(items: &[(Identifier, Owner)], id: &Identifier) -> Option<ItemNo>
+pub(crate) fn item_with(items: &[(Identifier, Owner)], id: &Identifier) -> Option<ItemNo>
     requires few { length items.now ≤ 65535 }
     requires sorted { IsStrictlySortedBy ident_cmp (keys_of items.now) }
     ensures { result ≡ find_in items.now id.now }

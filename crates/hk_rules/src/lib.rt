@@ -3,7 +3,9 @@
 
 mod clashes;
 mod finding;
+mod first_rule;
 mod headers;
+mod matched;
 mod matching;
 mod owner;
 mod pairs;
@@ -18,6 +20,7 @@ mod sources;
 mod targets;
 mod universe;
 
+pub use first_rule::first_rule_wins;
 pub use hk_forms::text_of_pattern;
 pub use hk_rules_file::{
     FeedKind, FeedRule, PageRule, Rule, RuleSource, Rules, RulesFault, TagRule, read_rules,

@@ -1,4 +1,4 @@
-// Which items a pattern matches.
+// Which items each pattern matches.
 ghost use Rattle.std.specs.Prelude.{◌≡◌, ◌≤◌, Bool, ◌&&◌, ◌||◌, not, length, map, filter, IfOk};
 ghost use Rattle.std.specs.List.{list_all, list_any, range_with_len, slice_index_or};
 ghost use Rattle.std.specs.List.Sorted.{IsStrictlySortedBy};
@@ -7,16 +7,36 @@ ghost use Rattle.hk_base.specs.Identifier.{ident_cmp};
 ghost use Rattle.hk_rules.specs.Flags.{is_chosen, is_item, merged};
 ghost use Rattle.hk_rules.specs.Plan.{matches_in};
 
-use crate::finding::place_of;
+use crate::finding::item_with;
+use crate::matched::Matched;
 use crate::owner::Owner;
 use hk_base::{Identifier, NoMemory};
 use hk_chain::ItemNo;
 use hk_pattern::Pattern;
 use std::alloc::Global;
 
+/// For each pattern the items that it matches, in order. For each pattern one pass over the items: each glob and version
+/// in it is tested once on each item, and each identifier in it is looked up once.
+pub(crate) fn matches_of(
+    alloc: Global,
+    items: &[(Identifier, Owner)],
+    patterns: &[Pattern],
+) -> Result<Vec<Matched>, NoMemory>
+    requires few { length items.now ≤ 65535 }
+    requires sorted { IsStrictlySortedBy ident_cmp (keys_of items.now) }
+    ensures { IfOk result (λ v. v.items ≡ map (matches_in items.now) patterns.now) }
+{
+    let mut matches = Vec::with_capacity(alloc, patterns.len())?;
+    for pattern in patterns {
+        let numbers = matching(alloc, items, pattern)?;
+        matches.push(Matched { items: numbers })?;
+    }
+    Ok(matches)
+}
+
 /// The numbers of the items that the pattern matches, in order. Each glob and version is tested once on each item, and
 /// each identifier in the pattern is looked up once.
-pub(crate) fn matching(
+fn matching(
     alloc: Global,
     items: &[(Identifier, Owner)],
     pattern: &Pattern,
@@ -126,7 +146,7 @@ fn flag_item(flags: &mut Vec<bool>, items: &[(Identifier, Owner)], id: &Identifi
     requires flagged { length flags.old.items ≡ length items.now }
     ensures { flags.new.items ≡ merged (λ a b. a || b) flags.old.items (map (is_item id.now) items.now) }
 {
-    if let Some(item) = place_of(items, id) {
+    if let Some(item) = item_with(items, id) {
         flags[item.0 as usize] = true;
     }
 }

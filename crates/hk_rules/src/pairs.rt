@@ -55,7 +55,7 @@ fn count_saves(steps: &[Step]) -> usize
 pub(crate) fn pair_at(last: PairNo, steps: &[Step], name: &[u8]) -> Option<PairNo>
     ensures { result ≡ spec.pair_at last steps.now name.now }
 {
-    match place_of(steps, name) {
+    match place_of_save(steps, name) {
         Some(place) => Some(back(last, count_saves(steps).saturating_sub(place))),
         None => None,
     }
@@ -69,8 +69,8 @@ fn back(last: PairNo, count: usize) -> PairNo
 }
 
 /// The place of a name among those of a chain.
-fn place_of(steps: &[Step], name: &[u8]) -> Option<usize>
-    ensures { result ≡ spec.place_of steps.now name.now }
+fn place_of_save(steps: &[Step], name: &[u8]) -> Option<usize>
+    ensures { result ≡ spec.place_of_save steps.now name.now }
 {
     let mut place = 0;
     for step in steps {

@@ -7,8 +7,9 @@ ghost use Rattle.hk_rules.specs.Plan.{lookups};
 ghost use Rattle.hk_rules.specs.PlanView.{IsPlan};
 ghost use Rattle.hk_rules.specs.Planning.{plan_by};
 
-use crate::finding::place_of;
-use crate::matching::matching;
+use crate::finding::item_with;
+use crate::matched::Matched;
+use crate::matching::matches_of;
 use crate::owner::Owner;
 use crate::pairs::{layout_of, name_before, pair_at};
 use hk_base::{Identifier, NoMemory, Shared, Text};
@@ -21,7 +22,8 @@ use std::marker::Model;
 
 /// What is known of a site before a compiler runs: its items in identifier order, and of each who owns it, its header
 /// and its target. In contracts it is these lists; `lookups` says what is told of them. Every plan is linked: the numbers
-/// in its chains and contexts are those of contexts and patterns that there are, and the names of each kind differ.
+/// in its chains and contexts are those of contexts and patterns that there are, and the names of each kind differ. The
+/// items that each pattern matches were found once, when the plan was made.
 #[derive(Drop)]
 pub struct Plan {
     items: Vec<(Identifier, Owner)>,
@@ -31,15 +33,17 @@ pub struct Plan {
     patterns: Vec<Pattern>,
     feeds: Vec<FeedRule>,
     layout: Shared<Layout>,
+    matches: Vec<Matched>,
 }
 
 impl Model for Plan {
-    ghost use Rattle.std.specs.Prelude.{◌≡◌};
+    ghost use Rattle.std.specs.Prelude.{◌≡◌, map};
     ghost use Rattle.std.specs.Coded.{codes};
     ghost use Rattle.hk_pattern.specs.contracts.pattern.Pattern as pattern;
     ghost use Rattle.hk_route.specs.contracts.route.Route as route;
     ghost use Rattle.hk_rules.specs.LinkedPlan.{IsLinkedPlan};
     ghost use Rattle.hk_rules.specs.Pairs as pairs;
+    ghost use Rattle.hk_rules.specs.Plan.{matches_in};
     ghost use Rattle.hk_rules.specs.PlanView.{PlanView, IsPlan};
     ghost use Rattle.hk_rules.specs.Planning.{plan_by};
 
@@ -49,11 +53,13 @@ impl Model for Plan {
 
     ghost view = { λ p. plan_by p.contexts.items p.patterns.items p.feeds.items p.items.items p.headers.items p.targets.items };
 
-    ghost invariant = { λ p. let plan = plan_by p.contexts.items p.patterns.items p.feeds.items p.items.items p.headers.items p.targets.items in IsPlan plan × IsLinkedPlan plan × (p.layout ≡ pairs.layout p.items.items) };
+    ghost invariant = { λ p. let plan = plan_by p.contexts.items p.patterns.items p.feeds.items p.items.items p.headers.items p.targets.items in IsPlan plan × IsLinkedPlan plan × (p.layout ≡ pairs.layout p.items.items) × (p.matches.items ≡ map (matches_in p.items.items) p.patterns.items) };
 }
 
 impl Plan {
-    /// The plan of items with their headers and targets. Linear in the items and their chains.
+    /// The plan of items with their headers and targets. Linear in the items and their chains, and for each pattern one
+    /// pass over the items, in which each glob and version in it is tested once on each item and each identifier in it is
+    /// looked up once.
     pub(crate) fn of_parts(
         alloc: Global,
         items: Vec<(Identifier, Owner)>,
@@ -69,6 +75,7 @@ impl Plan {
     {
         let layout = layout_of(alloc, &items)?;
         let layout = Shared::new(alloc, layout)?;
+        let matches = matches_of(alloc, &items, &patterns)?;
         Ok(Plan {
             items,
             headers,
@@ -77,6 +84,7 @@ impl Plan {
             patterns,
             feeds,
             layout,
+            matches,
         })
     }
 }
@@ -208,7 +216,7 @@ impl Plan {
     pub fn find(&self, id: &Identifier) -> Option<ItemNo>
         ensures { result ≡ (lookups self.now).find id.now }
     {
-        place_of(&self.items, id)
+        item_with(&self.items, id)
     }
 
     /// The pair of an item with this name; `None` exactly where the item has none. Linear in the item's chain.
@@ -239,11 +247,11 @@ impl Plan {
         )
     }
 
-    /// The items whose identifiers the pattern matches, in order. Each item is tested once.
-    pub fn matches(&self, alloc: Global, number: PatternNo) -> Result<Vec<ItemNo>, NoMemory>
+    /// The items whose identifiers the pattern matches, in order: they were found when the plan was made. Constant.
+    pub fn matches(&self, number: PatternNo) -> &[ItemNo]
         requires { number < length self.now.patterns }
-        ensures { IfOk result (λ v. v.items ≡ (lookups self.now).matches number) }
+        ensures { result.now ≡ (lookups self.now).matches number }
     {
-        matching(alloc, &self.items, &self.patterns[number.0 as usize])
+        self.matches[number.0 as usize].items.as_slice()
     }
 }

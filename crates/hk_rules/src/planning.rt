@@ -49,7 +49,8 @@ struct Named {
 /// The rules have to be linked, as those that `read_rules` gives: the numbers in them in range, their names and texts
 /// different and of their form. So is the plan then, as `Plan::linked` tells: in each item's chain and in the contexts.
 ///
-/// Each pattern is tested once on each path; then `n log n`.
+/// Each pattern of a rule is tested once on each path; then `n log n`, and for each pattern that a list or a step names
+/// one pass over the items, which is never made again.
 pub fn make_plan(
     alloc: Global,
     rules: Rules,

@@ -22,7 +22,8 @@ use Rattle.hk_rules.proofs.PairNumbers.{pair_of-own, pair_name-of, pair_of-final
 use Rattle.hk_rules.proofs.Pairing.{pairs-fit}
 use Rattle.hk_rules.proofs.Recipes.{plan-recipe}
 use Rattle.hk_rules.specs.MadePlan.{IsMadePlan}
-use Rattle.hk_rules.specs.Pairs.{final_name, saves, counts, count_of, layout}
+use Rattle.hk_rules.specs.Pairs.{saves, counts, count_of, layout}
+use Rattle.hk_chain.specs.Names.{final_name}
 use Rattle.hk_rules.specs.Plan.{id_at, chain_at, last_pair, pair_owner, pair_name_of, pattern_at, Lookups, lookups}
 use Rattle.hk_rules.specs.PlanView.{PlanView}
 use Rattle.hk_rules.specs.Recipe.{named_step, recipe_in, recipe_of}

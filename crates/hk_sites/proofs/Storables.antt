@@ -17,7 +17,8 @@ use Rattle.hk_forms.specs.Names.{is_snapshot_name}
 use Rattle.hk_rules.proofs.ItemNumbers.{matches_in-below, matches_in-rising}
 use Rattle.hk_rules.proofs.PairNumbers.{linked-chain}
 use Rattle.hk_rules.specs.MadePlan.{IsMadePlan}
-use Rattle.hk_rules.specs.Pairs.{final_name, saves, count_of, counts, layout}
+use Rattle.hk_rules.specs.Pairs.{saves, count_of, counts, layout}
+use Rattle.hk_chain.specs.Names.{final_name}
 use Rattle.hk_rules.specs.Plan.{no_item, id_at, chain_at, pair_owner, pair_name_of, pattern_at, matches_in}
 use Rattle.hk_rules.specs.PlanView.{PlanView}
 use Rattle.hk_rules.specs.Universe.{Claim}

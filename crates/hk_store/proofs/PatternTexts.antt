@@ -5,7 +5,7 @@ use Rattle.std.specs.List.{AllByRecursion, flat_map}
 use Rattle.std.proofs.lemmas.List.{length-map}
 use Rattle.hk_base.specs.Bytes.{Bytes}
 use Rattle.hk_base.specs.Identifier.{Ident}
-use Rattle.hk_forms.specs.PatternText.{num, str, ident_text, idents_text, joined, text_by, text_of}
+use Rattle.hk_forms.specs.PatternText.{num, str, ident_text, idents_text, texts_joined, text_by, text_of}
 use Rattle.hk_pattern.specs.declared.pattern.Pattern.{Pattern, out-Pattern, roll-Pattern, roll-out-Pattern}
 use Rattle.hk_pattern.specs.declared.pattern.Pattern.TheOpen.{Pattern-F}
 use Rattle.hk_pattern.specs.declared.pattern.Pattern.TheFolds.{fold-roll-Pattern, ind-Pattern, map-Pattern}
@@ -71,12 +71,12 @@ idents-flat : (ids : List Ident) → idents_text ids ≡ flat_map ident_text ids
 idents-flat [] = refl
 idents-flat (id ∷ ids) = ap (λ t. ident_text id ++ t) (idents-flat ids)
 
-joined-flat : (patterns : List Pattern) → joined (map text_of patterns) ≡ flat_map text_of patterns
+joined-flat : (patterns : List Pattern) → texts_joined (map text_of patterns) ≡ flat_map text_of patterns
 joined-flat [] = refl
 joined-flat (p ∷ patterns) = ap (λ t. text_of p ++ t) (joined-flat patterns)
 
-listed : (word : Bytes) (patterns : List Pattern) → str word ++ (num (length (map text_of patterns)) ++ joined (map text_of patterns)) ≡ str word ++ many text_of patterns
-listed word patterns = ap (λ n. str word ++ (num n ++ joined (map text_of patterns))) (length-map patterns text_of) ∙ ap (λ t. str word ++ (num (length patterns) ++ t)) (joined-flat patterns)
+listed : (word : Bytes) (patterns : List Pattern) → str word ++ (num (length (map text_of patterns)) ++ texts_joined (map text_of patterns)) ≡ str word ++ many text_of patterns
+listed word patterns = ap (λ n. str word ++ (num n ++ texts_joined (map text_of patterns))) (length-map patterns text_of) ∙ ap (λ t. str word ++ (num (length patterns) ++ t)) (joined-flat patterns)
 
 rolled : (x : Pattern-F Pattern) → text_of (roll-Pattern x) ≡ layer_text x
 rolled (Pattern-F.Glob glob) = fold-roll-Pattern Bytes text_by (Pattern-F.Glob glob)

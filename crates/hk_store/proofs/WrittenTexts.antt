@@ -13,7 +13,8 @@ use Rattle.hk_fix.specs.Table.{Key, same_key}
 use Rattle.hk_forms.specs.PatternText.{num, str, ident_text}
 use Rattle.hk_store.specs.Entry.{AskView, MatchView, MarkView, asked, stored, EntryView}
 use Rattle.hk_store.specs.Reading.{each}
-use Rattle.hk_store.specs.Stored.{final_name, is_page_name, keys_of_asks, asked_keys, saved_names, ids_of, IsMark, IsEntry, IsStored, IsDigest, HeldId, HeldAsk, HeldMatch, HeldMark, HeldEntry, AreHeld}
+use Rattle.hk_store.specs.Stored.{is_page_name, keys_of_asks, asked_keys, saved_names, ids_of, IsMark, IsEntry, IsStored, IsDigest, HeldId, HeldAsk, HeldMatch, HeldMark, HeldEntry, AreHeld}
+use Rattle.hk_chain.specs.Names.{final_name}
 use Rattle.hk_store.specs.StoreReading.{is_above, last_of, an_id_after, a_match, an_ask, letter_text, is_save_name, a_mark, an_entry_above, an_entry, a_store}
 use Rattle.hk_store.specs.StoreText.{digest_text, page_text, ask_text, match_text, mark_text, entry_text, first_line, store_text}
 use Rattle.hk_store.specs.Told.{Small, Short, many}

@@ -8,7 +8,8 @@ use Rattle.hk_fix.specs.Table.{Key, same_key}
 use Rattle.hk_forms.specs.PatternText.{num, str, ident_text}
 use Rattle.hk_store.specs.Entry.{AskView, MatchView, MarkView, asked, stored, EntryView}
 use Rattle.hk_store.specs.Reading.{Outcome, field, after, given, each, ends}
-use Rattle.hk_store.specs.Stored.{final_name, is_page_name, keys_of_asks, asked_keys, saved_names, ids_of, IsDigest, HeldId}
+use Rattle.hk_store.specs.Stored.{is_page_name, keys_of_asks, asked_keys, saved_names, ids_of, IsDigest, HeldId}
+use Rattle.hk_chain.specs.Names.{final_name}
 use Rattle.hk_store.specs.StoreText.{digest_text, page_text, first_line}
 use Rattle.hk_store.specs.Told.{Small, Any}
 

@@ -1,19 +1,17 @@
 -- What entries have to have that a store is printed of them.
-use Rattle.std.specs.Prelude.{◌≡◌, ◌<◌, Bool, true, ◌||◌, List, [], ◌∷◌, ◌++◌, length, map, None, bytes_eq, codes}
+use Rattle.std.specs.Prelude.{◌≡◌, ◌<◌, Bool, true, ◌||◌, List, [], ◌∷◌, ◌++◌, length, map, None, bytes_eq}
 use Rattle.std.specs.List.{AllByRecursion, IsDistinct}
 use Rattle.std.specs.List.Sorted.{IsStrictlySortedBy}
 use Rattle.hex.specs.Hex.{IsBytes}
 use Rattle.hk_base.specs.Bytes.{Bytes}
 use Rattle.hk_base.specs.Identifier.{Ident, ident_cmp, ident_fault}
+use Rattle.hk_chain.specs.Names.{final_name}
 use Rattle.hk_chain.specs.declared.page.Page.{Page}
 use Rattle.hk_fix.specs.Table.{Key, same_key}
 use Rattle.hk_forms.specs.Names.{is_snapshot_name}
 use Rattle.hk_store.specs.Entry.{AskView, MatchView, MarkView, asked, stored, EntryView}
 
--- the name of a finished page, and the names of all pages
-abbrev pub final_name : Bytes
-final_name = codes "_final"
-
+-- the names of all pages
 abbrev pub is_page_name : Bytes → Bool
 is_page_name name = is_snapshot_name name || bytes_eq name final_name
 

@@ -1,4 +1,3 @@
-pub mod Counted
 pub mod DepsText
 pub mod Printed
 pub mod ReportText

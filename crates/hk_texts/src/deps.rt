@@ -6,11 +6,9 @@ ghost use Rattle.hk_fix.specs.Outcomes.{outcome_view};
 ghost use Rattle.hk_fix.specs.Report.{ending_at};
 ghost use Rattle.hk_rules.specs.Pairs.{layout};
 ghost use Rattle.hk_rules.specs.Plan.{lookups};
-ghost use Rattle.hk_texts.specs.Counted.{AreCounts};
 ghost use Rattle.hk_texts.specs.DepsText as spec;
 ghost use Rattle.hk_texts.specs.DepsText.{AreWithin, CanTell, facts_by};
 
-use crate::counted::Counted;
 use crate::pieces::{append, write_item, write_pair};
 use hk_base::{NoMemory, Text};
 use hk_chain::{Facts, ItemNo, PairNo, PatternNo};
@@ -20,18 +18,17 @@ use std::alloc::Global;
 
 /// A line for each item, and below it one for each page that it asked for and one for each pattern that it used, with the
 /// number of items that the pattern matches. Linear in the text, but that each asked page's name is looked up in its
-/// item's chain, and that the matches of each used pattern are counted once.
+/// item's chain.
 pub fn deps_text(alloc: Global, plan: &Plan, outcomes: &[Outcome]) -> Result<Text, NoMemory>
     requires { CanTell (length plan.now.items) (pairs (layout plan.now.items)) (length plan.now.patterns) (map outcome_view outcomes.now) }
     ensures { IfOk result (λ text. text ≡ spec.deps_text (lookups plan.now) (length plan.now.items) (map outcome_view outcomes.now)) }
 {
     let mut out = Vec::new(alloc);
-    let mut counted = Counted::none(alloc, plan)?;
     for number in 0..plan.count() {
         let item = ItemNo(number);
         write_item(alloc, &mut out, plan, item)?;
         append(&mut out, b"\n")?;
-        write_used(alloc, &mut out, plan, &mut counted, outcomes, item)?;
+        write_used(alloc, &mut out, plan, outcomes, item)?;
     }
     Ok(Text::from_vec(out))
 }
@@ -40,18 +37,15 @@ fn write_used(
     alloc: Global,
     out: &mut Vec<u8>,
     plan: &Plan,
-    counted: &mut Counted,
     outcomes: &[Outcome],
     item: ItemNo,
 ) -> Result<(), NoMemory>
     requires item { item < length plan.now.items }
     requires told { CanTell (length plan.now.items) (pairs (layout plan.now.items)) (length plan.now.patterns) (map outcome_view outcomes.now) }
-    requires counts { AreCounts plan.now counted.old.by_pattern.items }
-    ensures text { OnOk result (out.new.items ≡ out.old.items ++ spec.used_lines (lookups plan.now) (facts_by (ending_at (map outcome_view outcomes.now) item))) }
-    ensures counts { OnOk result (AreCounts plan.now counted.new.by_pattern.items) }
+    ensures { OnOk result (out.new.items ≡ out.old.items ++ spec.used_lines (lookups plan.now) (facts_by (ending_at (map outcome_view outcomes.now) item))) }
 {
     match done_facts(outcomes, item) {
-        Some(facts) => write_facts(alloc, out, plan, counted, facts),
+        Some(facts) => write_facts(alloc, out, plan, facts),
         None => Ok(()),
     }
 }
@@ -66,20 +60,12 @@ fn done_facts(outcomes: &[Outcome], item: ItemNo) -> Option<&Facts>
     }
 }
 
-fn write_facts(
-    alloc: Global,
-    out: &mut Vec<u8>,
-    plan: &Plan,
-    counted: &mut Counted,
-    facts: &Facts,
-) -> Result<(), NoMemory>
-    requires within { AreWithin (pairs (layout plan.now.items)) (length plan.now.patterns) facts.now }
-    requires counts { AreCounts plan.now counted.old.by_pattern.items }
-    ensures text { OnOk result (out.new.items ≡ out.old.items ++ spec.facts_lines (lookups plan.now) facts.now) }
-    ensures counts { OnOk result (AreCounts plan.now counted.new.by_pattern.items) }
+fn write_facts(alloc: Global, out: &mut Vec<u8>, plan: &Plan, facts: &Facts) -> Result<(), NoMemory>
+    requires { AreWithin (pairs (layout plan.now.items)) (length plan.now.patterns) facts.now }
+    ensures { OnOk result (out.new.items ≡ out.old.items ++ spec.facts_lines (lookups plan.now) facts.now) }
 {
     write_loads(alloc, out, plan, &facts.asks)?;
-    write_patterns(alloc, out, plan, counted, &facts.patterns)
+    write_patterns(alloc, out, plan, &facts.patterns)
 }
 
 fn write_loads(
@@ -110,18 +96,15 @@ fn write_patterns(
     alloc: Global,
     out: &mut Vec<u8>,
     plan: &Plan,
-    counted: &mut Counted,
     patterns: &[PatternNo],
 ) -> Result<(), NoMemory>
-    requires within { All (λ pattern. pattern < length plan.now.patterns) patterns.now }
-    requires counts { AreCounts plan.now counted.old.by_pattern.items }
-    ensures text { OnOk result (out.new.items ≡ out.old.items ++ spec.pattern_lines (lookups plan.now) 0 patterns.now) }
-    ensures counts { OnOk result (AreCounts plan.now counted.new.by_pattern.items) }
+    requires { All (λ pattern. pattern < length plan.now.patterns) patterns.now }
+    ensures { OnOk result (out.new.items ≡ out.old.items ++ spec.pattern_lines (lookups plan.now) 0 patterns.now) }
 {
     let mut place = 0;
     for pattern in patterns {
         place += 1;
-        write_pattern(alloc, out, plan, counted, place, *pattern)?;
+        write_pattern(alloc, out, plan, place, *pattern)?;
     }
     Ok(())
 }
@@ -130,16 +113,13 @@ fn write_pattern(
     alloc: Global,
     out: &mut Vec<u8>,
     plan: &Plan,
-    counted: &mut Counted,
     place: u64,
     pattern: PatternNo,
 ) -> Result<(), NoMemory>
-    requires within { pattern < length plan.now.patterns }
-    requires counts { AreCounts plan.now counted.old.by_pattern.items }
-    ensures text { OnOk result (out.new.items ≡ out.old.items ++ spec.pattern_line (lookups plan.now) place pattern) }
-    ensures counts { OnOk result (AreCounts plan.now counted.new.by_pattern.items) }
+    requires { pattern < length plan.now.patterns }
+    ensures { OnOk result (out.new.items ≡ out.old.items ++ spec.pattern_line (lookups plan.now) place pattern) }
 {
-    let count = counted.count_of(alloc, plan, pattern)?;
+    let count = plan.matches(pattern).len();
     let line = format!(in alloc; "  pattern {place}: {count} matches\n")?;
     append(out, line.as_bytes())
 }

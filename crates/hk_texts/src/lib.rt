@@ -1,7 +1,6 @@
 //! The texts that a run prints.
 #![tactic(auto)]
 
-mod counted;
 mod damage;
 mod deps;
 mod done;

@@ -12,4 +12,4 @@ loop-found-preserved c =
     let texts = c.args.known.now.texts in
     let i = c.loop-found.found-index in
     let f : MatchView → ℕ = λ m. unwrap_or (position_from (λ own. bytes_eq own m.text) 0 texts) 0 in
-    c.in_ok-push.ensures.items ∙ (ap (λ (l : List ℕ). l ++ c.in_ok-number.number ∷ []) c.loop-found.invariant ∙ (ap (λ (n : ℕ). map f (take i records) ++ n ∷ []) c.in_ok-number.ensures ∙ sym (map-turn f records i c.found-item.result c.loop-found-test.true c.found-item.is)))
+    c.in_ok-push.ensures.items ∙ (ap (λ (l : List ℕ). l ++ c.number_of-number.result ∷ []) c.loop-found.invariant ∙ (ap (λ (n : ℕ). map f (take i records) ++ n ∷ []) c.number_of-number.ensures ∙ sym (map-turn f records i c.found-item.result c.loop-found-test.true c.found-item.is)))

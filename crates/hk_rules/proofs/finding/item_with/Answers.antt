@@ -1,7 +1,7 @@
 use Rattle.std.proofs.Common.{◌≡◌, ◌+◌, ◌/◌, ◌-◌, sym, ap, ◌∙◌, arith, zero-add, Some, get_or}
 use Rattle.hk_base.specs.Identifier.{ident_cmp}
 use Rattle.hk_rules.proofs.Searching.{hit, miss}
-use Rattle.hk_rules.proofs.finding.place_of.Goals as goal
+use Rattle.hk_rules.proofs.finding.item_with.Goals as goal
 
 pub returns-in-Equal : goal.returns-in-Equal
 returns-in-Equal c =

@@ -2,7 +2,7 @@ use Rattle.std.proofs.Common.{◌≡◌, ◌≤◌, ◌<◌, ◌-◌, length, ge
 use Rattle.std.specs.declared.cmp.Ordering.TheVariants.{Less, Greater}
 use Rattle.hk_base.specs.Identifier.{Ident, ident_cmp}
 use Rattle.hk_rules.specs.declared.owner.Owner.{Owner}
-use Rattle.hk_rules.proofs.finding.place_of.Given as goal
+use Rattle.hk_rules.proofs.finding.item_with.Given as goal
 
 abbrev pub invariant-loop-low : goal.invariant-loop-low
 invariant-loop-low l = record {
