@@ -11,7 +11,7 @@ use Rattle.hk_fix.specs.Deed.{Answer, Deed, returns, saving, asking, ◌then◌,
 use Rattle.hk_fix.specs.DeedLaws.{interpret-then, bind-same}
 use Rattle.hk_fix.specs.Table.{Traits, Table}
 use Rattle.hk_fix.specs.Task.{gives, ◌▷◌}
-use Rattle.hk_rules.specs.Pairs.{final_name}
+use Rattle.hk_chain.specs.Names.{final_name}
 use Rattle.hk_rules.specs.Plan.{Lookups}
 use Rattle.hk_eval.specs.PlanTable.{IsTableOf}
 use Rattle.hk_rules.specs.Recipe.{Recipe, context_name, is_among, named_step, reached, recipe_in, IsRecipe, IsStepAmong}
@@ -26,7 +26,7 @@ use Rattle.hk_eval.specs.Templates.{tree_task, template_task}
 use Rattle.hk_eval.proofs.NamedAsks.{group_traits, need-text-same, ask-text-same, group-same, match-same, other-same}
 use Rattle.hk_eval.proofs.NamedRenderings.{tree-same, template-same, render-same}
 use Rattle.hk_machine.specs.Applying.{page_with, rendered_task, apply_task, self_task}
-use Rattle.hk_machine.specs.Chain.{file_of, body_of, template_by, joined_by, joined, save_task, relative_page, step_task, steps_task, chain_task}
+use Rattle.hk_machine.specs.Chain.{file_of, body_of, template_by, joined_by, joined_pages, save_task, relative_page, step_task, steps_task, chain_task}
 use Rattle.hk_machine.specs.ChainDeed.{own_body, own_place, text_of_page, rendered_deed, checked_deed, joined_deed_by, joined_deed, step_deed, steps_deed, chain_deed}
 
 module _ (plan : Lookups) (items contexts patterns : ℕ) (table : Table) (told : IsTableOf plan items patterns table) (item : ℕ) (here : item < items) (known : IsRecipe plan contexts patterns item) where
@@ -54,7 +54,7 @@ module _ (plan : Lookups) (items contexts patterns : ℕ) (table : Table) (told 
   joined-by-same xs ts None = ap (λ bytes. gives (text_page bytes)) (bodies-same xs ts)
   joined-by-same xs ts (Some i) = refl
 
-  joined-same : (is : List ℕ) (ts : List Traits) (xs : List Page) → interpret table own (joined_deed (map plan.id is) (answers xs ts)) ≡ joined plan is xs
+  joined-same : (is : List ℕ) (ts : List Traits) (xs : List Page) → interpret table own (joined_deed (map plan.id is) (answers xs ts)) ≡ joined_pages plan is xs
   joined-same is ts xs =
       ap (λ o. interpret table own (joined_deed_by (answers xs ts) o)) (other-same plan items patterns table told own is xs ts)
       ∙ joined-by-same xs ts (other_kind is xs)
@@ -62,8 +62,8 @@ module _ (plan : Lookups) (items contexts patterns : ℕ) (table : Table) (told 
   concat-same : (n : ℕ) → n < patterns → (page : Page) → interpret table own (step_deed own recipe (named_step plan (steps.Concat n)) page) ≡ step_task plan item (steps.Concat n) page
   concat-same n lt page =
       let is = plan.matches n in
-      match-same plan items patterns table told own n lt (λ ids. asking (keys_named final_name ids) (joined_deed ids)) (ask_all plan final_name is ▷ joined plan is)
-      (group-same plan items patterns table told own final_name is (told.matched n) (joined_deed (map plan.id is)) (joined plan is) (joined-same is (group_traits plan items patterns table told own final_name is)))
+      match-same plan items patterns table told own n lt (λ ids. asking (keys_named final_name ids) (joined_deed ids)) (ask_all plan final_name is ▷ joined_pages plan is)
+      (group-same plan items patterns table told own final_name is (told.matched n) (joined_deed (map plan.id is)) (joined_pages plan is) (joined-same is (group_traits plan items patterns table told own final_name is)))
 
   -- ---- save
 

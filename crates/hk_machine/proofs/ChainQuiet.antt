@@ -8,7 +8,7 @@ use Rattle.hk_chain.specs.declared.page.Page.{Page}
 use Rattle.hk_fix.specs.Deed.{Answer, Deed, returns, asking, matching, ◌then◌, IsNumber, IsProper, IsQuiet}
 use Rattle.hk_fix.specs.DeedLaws.{quiet-then, proper-then}
 use Rattle.hk_fix.specs.Table.{Table}
-use Rattle.hk_rules.specs.Pairs.{final_name}
+use Rattle.hk_chain.specs.Names.{final_name}
 use Rattle.hk_rules.specs.PatternText.{text_of}
 use Rattle.hk_rules.specs.Plan.{Lookups}
 use Rattle.hk_eval.specs.PlanTable.{IsTableOf}

@@ -17,7 +17,7 @@ use Rattle.hk_fix.proofs.Trails.{in-append}
 use Rattle.hk_machine.specs.Keeping.{Came}
 use Rattle.hk_eval.specs.Leading.{Went}
 use Rattle.hk_eval.specs.Noted.{no_facts, with_save, noted}
-use Rattle.hk_eval.proofs.Firsts.{FreshSaves, noted-facts, noted-append}
+use Rattle.hk_eval.proofs.NotedLogs.{FreshSaves, noted-facts, noted-append, fresh-all, apart-rising}
 use Rattle.hk_eval.proofs.Running.{saves-append, leads-on, leads-more}
 
 pairs-append : (a b : List Mark) → saved_pairs (a ++ b) ≡ saved_pairs a ++ saved_pairs b
@@ -149,36 +149,6 @@ waits-untold task k l e = subst (AllByRecursion (λ p. k p ≡ None)) (run_waits
     each (p ∷ ps) = keep (k p) p (lacking k ps) refl (each ps)
 
 -- the facts of a chain that went through
-
-fresh-all : (kept : List ℕ) (log : List Mark) → IsDistinct nat_eq (saved_pairs log) → AllByRecursion (λ p. is_in kept p ≡ false) (saved_pairs log) → FreshSaves kept log
-unfolding IsDistinct
-fresh-all kept [] d h = tt
-fresh-all kept (asked ps ∷ log) d h = fresh-all kept log d h
-fresh-all kept (note (used n) ∷ log) d h = fresh-all kept log d h
-fresh-all kept (note (saved p x) ∷ log) d h = (h.0, fresh-all (p ∷ kept) log d.1 (both (saved_pairs log) d.0 h.1))
-  where
-    both : (qs : List ℕ) → AllByRecursion (λ q. nat_eq p q ≡ false) qs → AllByRecursion (λ q. is_in kept q ≡ false) qs → AllByRecursion (λ q. is_in (p ∷ kept) q ≡ false) qs
-    both [] a b = tt
-    both (q ∷ qs) a b = (or-both (nat_eq q p) (is_in kept q) (flip a.0) b.0, both qs a.1 b.1)
-      where
-        flip : nat_eq p q ≡ false → nat_eq q p ≡ false
-        flip e = grind (arith, e)
-
-        or-both : (s t : Bool) → s ≡ false → t ≡ false → (s || t) ≡ false
-        or-both true t a b = cc
-        or-both false t a b = b
-
-apart-rising : (ps : List ℕ) (last : ℕ) → Ascending ps → AllByRecursion (λ p. p ≢ last) ps → IsDistinct nat_eq (ps ++ last ∷ [])
-unfolding IsDistinct
-apart-rising [] last a h = (tt, tt)
-apart-rising (p ∷ ps) last a h = (others ps a.0 h.0, apart-rising ps last a.1 h.1)
-  where
-    others : (qs : List ℕ) → AllByRecursion (λ q. p < q) qs → p ≢ last → AllByRecursion (λ q. nat_eq p q ≡ false) (qs ++ last ∷ [])
-    others [] b ne = (grind (arith, ne), tt)
-    others (q ∷ qs) b ne = (below q b.0, others qs b.1 ne)
-      where
-        below : (r : ℕ) → p < r → nat_eq p r ≡ false
-        below r lt = grind (arith, lt)
 
 not-last : (lay : Shape) (i : ℕ) (ps : List ℕ) → AllByRecursion (λ p. (p < pairs lay) × (item_of lay p ≡ i) × (p ≢ final_of lay i)) ps → AllByRecursion (λ p. p ≢ final_of lay i) ps
 not-last lay i [] h = tt

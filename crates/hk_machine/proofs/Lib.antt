@@ -8,6 +8,7 @@ pub mod Coming
 pub mod Giving
 pub mod Grouping
 pub mod Joining
+mod LinkedRuns
 pub mod Quieting
 pub mod Refused
 pub mod PlanProper

@@ -11,7 +11,7 @@ use Rattle.hk_chain.specs.declared.fault.Fault.TheVariants.{Missing, NoSnapshot,
 use Rattle.hk_pattern.specs.declared.pattern.Pattern.TheVariants.{HasNoVersion}
 use Rattle.hk_fix.specs.Pages.{Pages, no_page, tell}
 use Rattle.hk_fix.specs.Task.{used, saved, asked, note, done, fault, waits, Run, run}
-use Rattle.hk_rules.specs.Pairs.{final_name}
+use Rattle.hk_chain.specs.Names.{final_name}
 use Rattle.hk_rules.specs.Plan.{Lookups, no_context}
 use Rattle.hk_eval.specs.Asking.{text_page}
 use Rattle.hk_machine.specs.Chain.{chain_task}

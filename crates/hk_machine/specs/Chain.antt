@@ -11,7 +11,7 @@ use Rattle.hk_chain.specs.declared.fault.Fault.TheVariants.{BadTemplate, WrongKi
 use Rattle.hk_fix.specs.Task.{Task, gives, fails, notes, used, saved, ◌▷◌}
 use Rattle.hk_html.specs.Root.{root_of}
 use Rattle.hk_html.specs.Relative.{with_roots}
-use Rattle.hk_rules.specs.Pairs.{final_name}
+use Rattle.hk_chain.specs.Names.{final_name}
 use Rattle.hk_rules.specs.Plan.{Lookups}
 use Rattle.hk_template.specs.Fault.{first_fault}
 use Rattle.hk_template.specs.Place.{fault_place}
@@ -39,11 +39,11 @@ joined_by plan pages None = gives (text_page (flat_map (λ page. page.body) page
 joined_by plan pages (Some item) = fails (WrongKind (plan.id item))
 
 -- the bodies of the items' pages in order, each of which must be text
-abbrev pub joined : Lookups → List ℕ → List Page → Task Page
-joined plan items pages = joined_by plan pages (other_kind items pages)
+abbrev pub joined_pages : Lookups → List ℕ → List Page → Task Page
+joined_pages plan items pages = joined_by plan pages (other_kind items pages)
 
 abbrev pub concat_task : Lookups → List ℕ → Task Page
-concat_task plan items = ask_all plan final_name items ▷ joined plan items
+concat_task plan items = ask_all plan final_name items ▷ joined_pages plan items
 
 -- a page under a name of its chain's, which is a pair
 abbrev pub save_task : Page → Option ℕ → Task Page

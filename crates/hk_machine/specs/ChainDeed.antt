@@ -8,7 +8,7 @@ use Rattle.hk_chain.specs.declared.fault.Fault.TheVariants.{BadTemplate, WrongKi
 use Rattle.hk_chain.specs.declared.page.Kind.TheVariants as kinds
 use Rattle.hk_chain.specs.declared.page.Page.{Page}
 use Rattle.hk_fix.specs.Deed.{Answer, Deed, returns, refuses, asking, matching, saving, ◌then◌}
-use Rattle.hk_rules.specs.Pairs.{final_name}
+use Rattle.hk_chain.specs.Names.{final_name}
 use Rattle.hk_rules.specs.Recipe as recipes
 use Rattle.hk_rules.specs.Recipe.{NamedStep, Recipe, own_header}
 use Rattle.hk_template.specs.Fault.{first_fault}

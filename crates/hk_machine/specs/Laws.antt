@@ -11,7 +11,7 @@ use Rattle.hk_template.specs.Fault.{first_fault}
 use Rattle.hk_template.specs.Growing.{read_tree}
 use Rattle.hk_template.specs.Tree.{Nodes}
 use Rattle.hk_template.specs.declared.fault.TemplateFault.{TemplateFault}
-use Rattle.hk_rules.specs.Pairs.{final_name}
+use Rattle.hk_chain.specs.Names.{final_name}
 use Rattle.hk_rules.specs.Plan.{Lookups}
 use Rattle.hk_fix.specs.Task.{Task, gives, ◌▷◌, run}
 use Rattle.hk_fix.specs.Run.{IsRun}
@@ -25,7 +25,7 @@ use Rattle.hk_eval.specs.Templates.{tree_task, template_task}
 use Rattle.hk_eval.specs.declared.place.Place.{Place}
 use Rattle.hk_eval.proofs.Grouping.{with-ok}
 use Rattle.hk_machine.specs.Applying.{page_with, rendered_task, apply_task, self_task}
-use Rattle.hk_machine.specs.Chain.{body_of, template_by, template_of, joined_by, joined, concat_task, save_task, relative_page, step_task, steps_task, chain_task}
+use Rattle.hk_machine.specs.Chain.{body_of, template_by, template_of, joined_by, joined_pages, concat_task, save_task, relative_page, step_task, steps_task, chain_task}
 use Rattle.hk_machine.specs.Runnable.{own_pairs, IsRunnable}
 
 -- what saves nothing
@@ -39,7 +39,7 @@ quiet-joined plan pages None = tt
 quiet-joined plan pages (Some item) = tt
 
 pub quiet-concat : (plan : Lookups) (items : List ℕ) → Quiet (concat_task plan items)
-quiet-concat plan items = quiet-bind (joined plan items) (ask_all plan final_name items) (quiet-all plan final_name items) (λ xs. quiet-joined plan xs (other_kind items xs))
+quiet-concat plan items = quiet-bind (joined_pages plan items) (ask_all plan final_name items) (quiet-all plan final_name items) (λ xs. quiet-joined plan xs (other_kind items xs))
 
 pub quiet-relative : (id : Ident) (page : Page) (target : Option Bytes) → Quiet (need_text id page ▷ (λ text. gives (relative_page text target)))
 quiet-relative id page target = quiet-bind (λ text. gives (relative_page text target)) (need_text id page) (quiet-text id page (is_text page.kind)) (λ x. tt)
@@ -95,7 +95,7 @@ module _ (P : List ℕ → Type 0) where
   -- what holds of the pair of each ask and of the pairs of each pattern's items holds of each group
   module _ (plan : Lookups) (one : (id : Ident) (name : Bytes) (i p : ℕ) → plan.find id ≡ Some i → plan.pair i name ≡ Some p → P (p ∷ [])) (all : (n : ℕ) (name : Bytes) (ps : List ℕ) → pairs_of plan name (plan.matches n) ≡ Ok ps → P ps) where
     groups-concat : (n : ℕ) → AllGroups P (concat_task plan (plan.matches n))
-    groups-concat n = groups-bind (joined plan (plan.matches n)) P (ask_all plan final_name (plan.matches n)) (groups-all P plan one all n final_name) (λ xs. groups-joined plan xs (other_kind (plan.matches n) xs))
+    groups-concat n = groups-bind (joined_pages plan (plan.matches n)) P (ask_all plan final_name (plan.matches n)) (groups-all P plan one all n final_name) (λ xs. groups-joined plan xs (other_kind (plan.matches n) xs))
 
     groups-rendered : (item context : ℕ) (page : Page) (tree : Nodes) → AllGroups P (rendered_task plan item context page tree)
     groups-rendered item context page tree =

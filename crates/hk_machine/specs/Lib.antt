@@ -5,7 +5,6 @@ pub mod ChainDeed
 pub mod Groups
 pub mod Keeping
 pub mod Laws
-pub mod LinkedRuns
 pub mod Machine
 pub mod PlanDeeds
 pub mod Runnable

@@ -7,7 +7,7 @@ ghost use Rattle.hk_rules.specs.Plan.{lookups};
 ghost use Rattle.hk_rules.specs.PlanView.{PlanView};
 ghost use Rattle.hk_machine.specs.Acting.{Acts, IsActOf};
 ghost use Rattle.hk_eval.specs.Asking.{ask_group};
-ghost use Rattle.hk_machine.specs.Chain.{concat_task, joined};
+ghost use Rattle.hk_machine.specs.Chain.{concat_task, joined_pages};
 ghost use Rattle.hk_machine.specs.Runnable.{Runs};
 ghost use Rattle.hk_eval.specs.Told.{told_pages};
 
@@ -20,7 +20,8 @@ use hk_eval::{Group, Notes, Told, lacking, pairs_of};
 use hk_rules::Plan;
 use std::alloc::Global;
 
-/// The finished pages of a pattern's items, one after another. Linear in the plan's items and in the bodies.
+/// The finished pages of a pattern's items, one after another. Linear in the chains of the items that match, which the plan
+/// holds, and in the bodies.
 pub(crate) fn concat(
     alloc: Global,
     plan: &Plan,
@@ -33,9 +34,9 @@ pub(crate) fn concat(
     ensures acts { IfOk result (λ a. (page : PageView) → Acts (lookups plan.now) (told_pages told.now) (noting (used pattern) (concat_task (lookups plan.now) ((lookups plan.now).matches pattern))) page notes.old a notes.new) }
     ensures within { IfOk result (λ a. (own : PlanView) → IsActOf own a) }
 {
-    let items = plan.matches(alloc, pattern)?;
-    match pairs_of(alloc, plan, &items, b"_final")? {
-        Group::Pairs(pairs) => all_of(alloc, plan, pattern, &items, &pairs, told, notes),
+    let items = plan.matches(pattern);
+    match pairs_of(alloc, plan, items, b"_final")? {
+        Group::Pairs(pairs) => all_of(alloc, plan, pattern, items, &pairs, told, notes),
         Group::Lacks(item) => Ok(Act::Fails(Fault::NoSnapshot {
             id: plan.id(item).copy(alloc)?,
             name: Text::from_slice(alloc, b"_final")?,
@@ -55,7 +56,7 @@ fn all_of(
 ) -> Result<Act, NoMemory>
     requires same { length items.now ≡ length pairs.now }
     requires items { AllByRecursion (λ i. i < length plan.now.items) items.now }
-    ensures acts { IfOk result (λ a. (page : PageView) → Acts (lookups plan.now) (told_pages told.now) (noting (used pattern) (ask_group pairs.now ▷ joined (lookups plan.now) items.now)) page notes.old a notes.new) }
+    ensures acts { IfOk result (λ a. (page : PageView) → Acts (lookups plan.now) (told_pages told.now) (noting (used pattern) (ask_group pairs.now ▷ joined_pages (lookups plan.now) items.now)) page notes.old a notes.new) }
     ensures within { IfOk result (λ a. (own : PlanView) → IsActOf own a) }
 {
     let lacks = lacking(alloc, told, pairs)?;

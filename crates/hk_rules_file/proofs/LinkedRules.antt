@@ -13,7 +13,7 @@ use Rattle.hk_rules_file.specs.RuleForm.{draft_by, draft_in, source_in, steps_in
 use Rattle.hk_forms.specs.IdForm.{version_of}
 use Rattle.hk_forms.specs.Names.{is_snapshot_name}
 use Rattle.hk_forms.specs.RouteForm.{route_of}
-use Rattle.hk_steps.specs.StepForm.{final_name}
+use Rattle.hk_chain.specs.Names.{final_name}
 use Rattle.hk_rules_file.specs.declared.draft_rule.DraftRule.{DraftRule}
 use Rattle.hk_steps.specs.declared.draft.DraftStep.{DraftStep}
 use Rattle.hk_rules_file.specs.declared.rules.Rule.{Rule}

@@ -21,7 +21,8 @@ use Rattle.hk_forms.specs.Members.{cons, each, fits, only, both, count_items}
 use Rattle.hk_forms.specs.Names.{is_snapshot_name}
 use Rattle.hk_rules_file.specs.Numbering.{place_of, numbered}
 use Rattle.hk_forms.specs.PatternForm.{pattern_of}
-use Rattle.hk_steps.specs.StepForm.{final_name, default_name, context_by, snapshot_by, word_step, load_by, apply_by, keyed, paired, table_by, in_table, step_by, step_of, few_saves, saves_of, most_saves, fits_chain, steps_by, chain_by}
+use Rattle.hk_steps.specs.StepForm.{default_name, context_by, snapshot_by, word_step, load_by, apply_by, keyed, paired, table_by, in_table, step_by, step_of, few_saves, saves_of, most_saves, fits_chain, steps_by, chain_by}
+use Rattle.hk_chain.specs.Names.{final_name}
 use Rattle.hk_steps.specs.declared.draft.DraftStep.{DraftStep}
 use Rattle.hk_steps.specs.declared.draft.DraftStep.TheVariants.{Ready, Concat as DraftConcat, Apply as DraftApply, SelfApply as DraftSelf}
 use Rattle.hk_rules_file.specs.declared.fault.RulesFault.{RulesFault}

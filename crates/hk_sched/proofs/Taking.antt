@@ -9,12 +9,15 @@ use Rattle.hk_fix.specs.Meaning.{Meaning}
 use Rattle.hk_fix.proofs.Steps.{contains-in, in-contains}
 use Rattle.hk_sched.specs.declared.stacks.Stack.{Stack}
 use Rattle.hk_sched.specs.declared.stacks.Stack.TheVariants.{Fresh, Woken, Waiting}
+use Rattle.hk_sched.specs.declared.place.Place.{Place}
+use Rattle.hk_sched.specs.declared.place.Place.TheVariants as place
 use Rattle.hk_sched.specs.declared.turn.Ready.{Ready}
 use Rattle.hk_sched.specs.declared.turn.Ready.TheVariants as ready
 use Rattle.hk_sched.specs.Stacks.{StacksView, is_on}
 use Rattle.hk_sched.specs.Standings.{Standing, unbegun, again, out, held, over, nowhere, standing_at, is_out, is_settled, is_empty, is_ready, stack_at, stack_for, SomeTold}
+use Rattle.hk_sched.specs.Places.{standing}
 use Rattle.hk_sched.specs.Rosters.{IsWithin, IsCursor, IsRoster}
-use Rattle.hk_sched.specs.Turns.{Begins, Takes}
+use Rattle.hk_sched.specs.Turns.{IsToBegin, AreToBegin, Begins, Takes}
 use Rattle.hk_sched.proofs.Answering.{filter-in}
 use Rattle.hk_sched.proofs.Lacks.{lacks-at}
 use Rattle.hk_sched.proofs.Rosters.{stood-at, put-fits, many-stacks}
@@ -55,14 +58,14 @@ module _ {X C : Type 0} (meaning : X → Meaning C) where
   stack-held k (over f) e = cc
   stack-held k (held x) e = (x, refl, woken-empty (lacking k (meaning x).awaits) e)
 
-  stack-fresh : (k : Pages) (s : Standing X) → stack_for meaning k s ≡ Some Fresh → (s ≡ unbegun → ⊥) → s ≡ again
-  stack-fresh k unbegun e n = absurd (n refl)
-  stack-fresh k again e n = refl
-  stack-fresh k out e n = cc
-  stack-fresh k (over f) e n = cc
-  stack-fresh k (held x) e n = go (lacking k (meaning x).awaits) e
+  stack-fresh : (k : Pages) (s : Standing X) → stack_for meaning k s ≡ Some Fresh → IsToBegin s
+  stack-fresh k unbegun e = tt
+  stack-fresh k again e = tt
+  stack-fresh k out e = cc
+  stack-fresh k (over f) e = cc
+  stack-fresh k (held x) e = go (lacking k (meaning x).awaits) e
     where
-      go : (ps : List ℕ) → Some (stack_at ps) ≡ Some Fresh → held x ≡ again
+      go : (ps : List ℕ) → Some (stack_at ps) ≡ Some Fresh → ⊥
       go [] q = cc
       go (p ∷ ps) q = cc
 
@@ -115,6 +118,9 @@ module _ {X C : Type 0} (meaning : X → Meaning C) where
         within : All (λ p. p < length known) (meaning y).awaits
         within = all-by_in (λ p. p < length known) (meaning y).awaits (λ p h. all-in (λ q. q < length known) (meaning x).awaits was.pairs p (filter-in (λ q. not (is_in told.0 q)) (meaning x).awaits p (rw awaits at h)).0)
 
+    pub fresh-begin : AreToBegin places stacks
+    fresh-begin i e = stack-fresh (at_place known) (standing_at places i) (sym (on-stack i) ∙ e)
+
     pub begin-fits : (r : Option (Ready X)) (places' : List (Standing X)) (stacks' : StacksView) → Begins places stacks r places' stacks' → IsRoster meaning known places' cursors stacks'
     begin-fits None places' stacks' b = rw (b.1, b.2) is
     begin-fits (Some (ready.First i)) places' stacks' b = rw (b.1.2, b.1.3) (out-fits i (omega (arith, b.1.0, many-stacks meaning known places cursors stacks is)))
@@ -127,10 +133,18 @@ module _ {X C : Type 0} (meaning : X → Meaning C) where
     begin-takes (Some (ready.First i)) places' stacks' b w = (omega (arith, b.1.0, many-stacks meaning known places cursors stacks is), b.0, rw b.1.2 refl)
     begin-takes (Some (ready.Again i)) places' stacks' b w = (
       omega (arith, b.1.0, many-stacks meaning known places cursors stacks is),
-      stack-fresh (at_place known) (standing_at places i) (sym (on-stack i) ∙ b.1.1) b.0,
+      b.0,
       rw b.1.2 refl,
     )
     begin-takes (Some (ready.Woken x)) places' stacks' b w = absurd b
+
+-- what is to begin stands at one of two places
+pub no-other : {M : Type 0} (p : Place M) → (p ≡ place.Unbegun → ⊥) → (p ≡ place.Again → ⊥) → IsToBegin (standing p) → ⊥
+no-other place.Unbegun n m h = n refl
+no-other place.Again n m h = m refl
+no-other place.Out n m h = h
+no-other (place.Held x) n m h = h
+no-other (place.Over o) n m h = h
 
 -- where nothing stands ready and nothing is out, all is settled
 pub all-settled : {X C : Type 0} (meaning : X → Meaning C) (k : Pages) (places : List (Standing X)) → ((i : ℕ) → is_ready meaning k (standing_at places i) ≡ false) → ((i : ℕ) → is_out (standing_at places i) ≡ false) → All (λ s. is_settled s ≡ true) places

@@ -11,7 +11,7 @@ use Rattle.hk_sched.specs.declared.turn.Asked.{Asked}
 use Rattle.hk_sched.specs.declared.turn.Asked.TheVariants as asked
 use Rattle.hk_sched.specs.declared.stacks.Stack.TheVariants.{Fresh}
 use Rattle.hk_sched.specs.Stacks.{StacksView, is_on}
-use Rattle.hk_sched.specs.Standings.{RosterView, Standing, unbegun, again, out, held, standing_at, is_out, is_ready, all_told, SomeTold}
+use Rattle.hk_sched.specs.Standings.{RosterView, Standing, unbegun, again, out, held, over, standing_at, is_out, is_ready, all_told, SomeTold}
 
 abbrev pub placed : {X : Type 0} → RosterView X → ℕ → Standing X → RosterView X
 placed r i s = record r { places = slice_set r.places i s }
@@ -26,10 +26,22 @@ abbrev pub IsTaken : {X : Type 0} → List (Standing X) → StacksView → ℕ �
 IsTaken places stacks i places' stacks' =
     (i < length stacks.stack_of) × (at_place stacks.stack_of i ≡ Some Fresh) × (places' ≡ slice_set places i out) × (stacks' ≡ record stacks { stack_of = slice_set stacks.stack_of i None })
 
+-- it is on the board, to begin or to begin anew
+abbrev pub IsToBegin : {X : Type 0} → Standing X → Type 0
+IsToBegin unbegun = Unit {0}
+IsToBegin again = Unit {0}
+IsToBegin out = ⊥
+IsToBegin (held x) = ⊥
+IsToBegin (over e) = ⊥
+
+-- so it is with each item on the stack of those that are to begin
+abbrev pub AreToBegin : {X : Type 0} → List (Standing X) → StacksView → Type 0
+AreToBegin places stacks = (i : ℕ) → at_place stacks.stack_of i ≡ Some Fresh → IsToBegin (standing_at places i)
+
 abbrev pub Begins : {X : Type 0} → List (Standing X) → StacksView → Option (Ready X) → List (Standing X) → StacksView → Type 0
 Begins places stacks None places' stacks' = ((i : ℕ) → is_on Fresh (at_place stacks.stack_of i) ≡ false) × (places' ≡ places) × (stacks' ≡ stacks)
 Begins places stacks (Some (ready.First i)) places' stacks' = (standing_at places i ≡ unbegun) × IsTaken places stacks i places' stacks'
-Begins places stacks (Some (ready.Again i)) places' stacks' = (standing_at places i ≡ unbegun → ⊥) × IsTaken places stacks i places' stacks'
+Begins places stacks (Some (ready.Again i)) places' stacks' = (standing_at places i ≡ again) × IsTaken places stacks i places' stacks'
 Begins places stacks (Some (ready.Woken x)) places' stacks' = ⊥
 
 module _ {X C : Type 0} (meaning : X → Meaning C) where

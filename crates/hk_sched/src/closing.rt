@@ -1,5 +1,5 @@
 // How each item of a roster ended.
-ghost use Rattle.std.specs.Prelude.{◌≡◌, ◌≤◌, ◌+◌, ℕ, [], length, map, filter, MatchOption, All, is_none, true, false};
+ghost use Rattle.std.specs.Prelude.{◌≡◌, ◌≤◌, ◌+◌, ℕ, [], length, map, filter, All, is_none, true};
 ghost use Rattle.std.specs.Vec.{vec_capacity};
 ghost use Rattle.hk_chain.specs.Kept.{at_place};
 ghost use Rattle.hk_fix.specs.Outcomes.{outcome_view};
@@ -24,22 +24,20 @@ pub fn outcomes<M: Compiler>(
 {
     let mut outcomes = room;
     for place in places {
-        match outcome(known, place) {
-            Some(outcome) => outcomes.push_reserved(outcome),
-            None => {}
-        }
+        outcomes.push_reserved(outcome(known, place));
     }
     outcomes
 }
 
 /// How an item ended that has ended or is parked.
-fn outcome<M: Compiler>(known: &[Option<PageRef>], place: Place<M>) -> Option<Outcome>
-    ensures { MatchOption result (is_settled (standing place) ≡ false) (λ o. outcome_view o ≡ ending_at M.meaning (at_place known.now) (standing place)) }
+fn outcome<M: Compiler>(known: &[Option<PageRef>], place: Place<M>) -> Outcome
+    requires { is_settled (standing place) ≡ true }
+    ensures { outcome_view result ≡ ending_at M.meaning (at_place known.now) (standing place) }
 {
     match place {
-        Place::Held(machine) => Some(Outcome::Waiting(still_lacking(known, machine.into_open()))),
-        Place::Over(outcome) => Some(outcome),
-        _ => None,
+        Place::Held(machine) => Outcome::Waiting(still_lacking(known, machine.into_open())),
+        Place::Over(outcome) => outcome,
+        _ => unreachable!(),
     }
 }
 

@@ -9,7 +9,7 @@ ghost use Rattle.hk_sched.specs.Stacks.{StacksView, HasStack};
 ghost use Rattle.hk_sched.specs.Standings.{RosterView, out, held, standing_at, is_out, is_settled, ending_at, stack_for, all_told, SomeTold, first_standing};
 ghost use Rattle.hk_sched.specs.Places.{standing};
 ghost use Rattle.hk_sched.specs.Rosters.{IsWithin, IsCursor, IsRoster, IsWaking, first_roster};
-ghost use Rattle.hk_sched.specs.Turns.{placed, FirstOut, Begins, Resumable, Resumes, Takes, Asks};
+ghost use Rattle.hk_sched.specs.Turns.{placed, FirstOut, AreToBegin, Begins, Resumable, Resumes, Takes, Asks};
 
 use crate::closing::outcomes;
 use crate::opening::{first_places, stand_fresh};
@@ -189,13 +189,15 @@ fn is_out_at<M: Compiler>(place: &Place<M>) -> bool
 
 /// Takes an item to begin.
 fn begin<M: Compiler>(places: &mut Vec<Place<M>>, stacks: &mut Stacks) -> Option<Ready<M>>
-    requires { length stacks.old.stack_of ≡ length places.old.items }
+    requires many { length stacks.old.stack_of ≡ length places.old.items }
+    requires fresh { AreToBegin (map standing places.old.items) stacks.old }
     ensures { Begins (map standing places.old.items) stacks.old result (map standing places.new.items) stacks.new }
 {
     let item = stacks.pop(Stack::Fresh)?;
     match take_place(places, item.0 as usize) {
         Place::Unbegun => Some(Ready::First(item)),
-        _ => Some(Ready::Again(item)),
+        Place::Again => Some(Ready::Again(item)),
+        _ => unreachable!(),
     }
 }
 
@@ -216,7 +218,7 @@ fn resume<M: Compiler>(
                 Err(NoMemory)
             }
         },
-        _ => Err(NoMemory),
+        _ => unreachable!(),
     }
 }
 
@@ -246,7 +248,7 @@ fn page_of(known: &[Option<PageRef>], pair: PairNo) -> Result<PageRef, NoMemory>
 {
     match &known[pair.0 as usize] {
         Some(page) => page.try_clone(),
-        None => Err(NoMemory),
+        None => unreachable!(),
     }
 }
 

@@ -7,7 +7,7 @@ use Rattle.hk_rules.specs.Plan.{lookups}
 use Rattle.hk_machine.specs.Acting.{Given}
 use Rattle.hk_eval.specs.Asking.{ask_group, other_kind, text_page}
 use Rattle.hk_eval.specs.Groups.{told_page}
-use Rattle.hk_machine.specs.Chain.{joined}
+use Rattle.hk_machine.specs.Chain.{joined_pages}
 use Rattle.hk_machine.specs.Groups.{joining_of, joined_of}
 use Rattle.hk_eval.specs.Told.{told_pages}
 use Rattle.hk_eval.proofs.Grouping.{other-in, empty-list}
@@ -25,7 +25,7 @@ returns-then-not-is_empty-clause-acts c = λ page.
 pub returns-in-Bodies-clause-acts : goal.returns-in-Bodies-clause-acts
 returns-in-Bodies-clause-acts c = λ page.
     let k : Pages = told_pages c.args.told.now in
-    let t : Task Page = notes (used c.args.pattern) (ask_group c.args.pairs.now ▷ joined (lookups c.args.plan.now) c.args.items.now) in
+    let t : Task Page = notes (used c.args.pattern) (ask_group c.args.pairs.now ▷ joined_pages (lookups c.args.plan.now) c.args.items.now) in
     let z : length c.in_ok-lacks.lacks.items ≡ 0 = grind arith in
     let none : lacking k c.args.pairs.now ≡ [] = sym c.in_ok-lacks.ensures ∙ empty-list c.in_ok-lacks.lacks.items z in
     let join : Ok c.in-Bodies.bytes.items ≡ joined_of (map (told_page k) c.args.pairs.now) (other_kind c.args.items.now (map (told_page k) c.args.pairs.now)) = ap joining_of (sym c.in-Bodies.is) ∙ c.in_ok-bytes.ensures in

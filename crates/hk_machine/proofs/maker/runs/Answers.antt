@@ -1,7 +1,7 @@
 use Rattle.std.proofs.Common.{◌∙◌, subst}
 use Rattle.hk_chain.specs.Layout.{IsShape}
 use Rattle.hk_rules.specs.Plan.{lookups}
-use Rattle.hk_machine.specs.LinkedRuns.{linked-runs}
+use Rattle.hk_machine.proofs.LinkedRuns.{linked-runs}
 use Rattle.hk_machine.proofs.maker.runs.Goals as goal
 
 pub returns : goal.returns

@@ -11,14 +11,14 @@ push_reserved-requires g c =
     let here : length c.loop-place.place-iterator.rest.items ≡ length (c.in-Some.place ∷ c.next.new.self.rest.items) = ap length c.in-Some.ensures.steps.0 in
     omega (arith, c.loop-place.invariant.left, c.loop-place.invariant.room, c.requires.room, c.loop-place.outcomes.ok.0, here)
 
-pub loop-place-preserved-in-Some-outcome : goal.loop-place-preserved-in-Some-outcome
-loop-place-preserved-in-Some-outcome g c =
+pub loop-place-preserved : goal.loop-place-preserved
+loop-place-preserved g c =
     let here : length c.loop-place.place-iterator.rest.items ≡ length (c.in-Some.place ∷ c.next.new.self.rest.items) = ap length c.in-Some.ensures.steps.0 in
     record {
       done =
           ap (map outcome_view) c.push_reserved.ensures.items
-          ∙ maps-more outcome_view (ending_at g.M.Compiler.meaning (at_place c.args.known.now)) standing c.loop-place.outcomes.items c.loop-place.yielded c.in-Some-outcome.outcome c.in-Some.place c.loop-place.invariant.done c.in-Some-outcome.ensures;
-      left = omega (arith, c.loop-place.invariant.left, here, ap length c.push_reserved.ensures.items, length-more c.loop-place.outcomes.items c.in-Some-outcome.outcome);
+          ∙ maps-more outcome_view (ending_at g.M.Compiler.meaning (at_place c.args.known.now)) standing c.loop-place.outcomes.items c.loop-place.yielded c.outcome.result c.in-Some.place c.loop-place.invariant.done c.outcome.ensures;
+      left = omega (arith, c.loop-place.invariant.left, here, ap length c.push_reserved.ensures.items, length-more c.loop-place.outcomes.items c.outcome.result);
       settled = all-rest (λ p. is_settled (standing p) ≡ true) c.in-Some.place c.next.new.self.rest.items c.loop-place.place-iterator.rest.items c.in-Some.ensures.steps.0 c.loop-place.invariant.settled;
       room = c.push_reserved.ensures.capacity ∙ c.loop-place.invariant.room;
     }

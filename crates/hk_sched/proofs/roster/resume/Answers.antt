@@ -4,8 +4,8 @@ use Rattle.hk_sched.specs.Standings.{standing_at}
 use Rattle.hk_sched.specs.Places.{standing}
 use Rattle.hk_sched.proofs.roster.resume.Goals as goal
 
-pub returns-in-Held : goal.returns-in-Held
-returns-in-Held g c = (
+pub returns-in-Err : goal.returns-in-Err
+returns-in-Err g c = (
   c.in-Held.machine,
   c.in-Err.machine,
   ap (standing_at (map standing c.args.places.now.items)) (sym c.item.view_is) ∙ sym c.in-Held.ensures.taken,

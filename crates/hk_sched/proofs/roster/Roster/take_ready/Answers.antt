@@ -4,7 +4,7 @@ use Rattle.hk_sched.specs.Places.{standing}
 use Rattle.hk_sched.specs.declared.turn.Ready.TheVariants as ready
 use Rattle.hk_sched.specs.Turns.{Takes, TakesReady, ToldOne}
 use Rattle.hk_sched.proofs.Rosters.{many-stacks}
-use Rattle.hk_sched.proofs.Taking.{woken-held, woken-lacks, out-fits, told-fits, begin-fits, begin-takes}
+use Rattle.hk_sched.proofs.Taking.{woken-held, woken-lacks, out-fits, told-fits, fresh-begin, begin-fits, begin-takes}
 use Rattle.hk_sched.proofs.roster.Roster.take_ready.Goals as goal
 
 pub invariant_of-self : goal.invariant_of-self
@@ -60,3 +60,7 @@ returns-in-Err g c =
       rw c.deref.ensures.value at c.in-Err.ensures.3,
       rw c.in-Err.ensures.4 refl,
     )
+
+pub begin-requires-clause-fresh : goal.begin-requires-clause-fresh
+begin-requires-clause-fresh g c =
+    rw c.in_default.ensures.1 (fresh-begin g.M.Compiler.meaning c.self.inside.known.items (map standing c.self.inside.places.items) c.self.inside.cursors.items c.self.inside.stacks c.self.invariant)
