@@ -21,7 +21,7 @@ use Rattle.hk_app.specs.Promise.{Always, Plans, Runs, IsPlanOf, reads_source, Al
 use Rattle.hk_app.specs.Promise.{IsNamed, IsShown, Shows, IsStopped, IsWriteFault, IsStoreFault, IsBadRules, IsBadSite, IsUnplanned, Comes, Holds, IsPartlyBuilt, IsTornBuilt, IsPast, StoreLeft, saved, unsaved, torn_store, whole, stopped}
 use Rattle.hk_app.specs.Promise.{StopsBuild, unbegun, partly, torn_site, past, StopsClean, clearing_site, clearing_cache, StopsReader, Leaves, IsSound, HasSoundPlan, IsExcused, failed, unsaid, wanting, of_source, of_site, of_cache, EndsWell, Promise}
 use Rattle.hk_app.specs.Run.{Ends, EndsWith, EndsAs, EndsBuilt, EndsTold, WantsBuilt, before, among, after_all, past_fault, EndsChecked, EndsCheck, SaysAs}
-use Rattle.hk_app.specs.Site.{Reading, absent, refused, unplanned, planned, reading}
+use Rattle.hk_app.specs.FolderReading.{Reading, absent, refused, unplanned, planned, reading}
 use Rattle.hk_app.specs.Standing.{Same, Told, SameButStore, store_path}
 use Rattle.hk_app.specs.Taking.{Taken, Takes, TakesAny, IsTakenBy, IsTakenOf, nothing}
 use Rattle.hk_app.specs.World.{Folder, Folders, Output, folders}

@@ -17,7 +17,7 @@ use Rattle.std.specs.FinMap.Entries.{find, is_sorted, below_all, same_entries, i
 use Rattle.hk_base.specs.Bytes.{Bytes, Files, ascends, paths_of}
 use Rattle.hk_base.specs.Ties.{only_equal_tie, ties-same, ties-self}
 use Rattle.hk_base.proofs.Both.{both, either-right}
-use Rattle.hk_app.specs.Reading.{read_at, entry_front}
+use Rattle.hk_app.specs.PathReading.{read_at, entry_front}
 
 abbrev R : Bytes → Bytes → Ordering
 R = slice_cmp nat_cmp

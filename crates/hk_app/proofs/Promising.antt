@@ -15,7 +15,7 @@ use Rattle.hk_app.specs.Promise.{Plans, Runs, IsPlanOf, reads_source, AllEnd, So
 use Rattle.hk_app.specs.Promise.{HasLinks, IsBadLinks, page_list, IsNamed, IsStopped, IsWriteFault, IsStoreFault, IsBadRules, IsBadSite, IsUnplanned, Comes, Holds, IsTornBuilt, IsPast, StoreLeft, saved, unsaved, torn_store}
 use Rattle.hk_app.specs.Promise.{StopsBuild, unbegun, torn_site, past, clearing_site, clearing_cache, Leaves, IsSound, HasSoundPlan, IsExcused, failed, unsaid, wanting, of_source, of_site, of_cache, EndsWell, Promise}
 use Rattle.hk_app.specs.Run.{Ends, SaysAs}
-use Rattle.hk_app.specs.Site.{Reading, absent, refused, unplanned, planned, reading}
+use Rattle.hk_app.specs.FolderReading.{Reading, absent, refused, unplanned, planned, reading}
 use Rattle.hk_app.specs.Standing.{store_path}
 use Rattle.hk_app.specs.Taking.{Taken, Takes, TakesAny, IsTakenOf, nothing}
 use Rattle.hk_app.specs.World.{Folders, Output}

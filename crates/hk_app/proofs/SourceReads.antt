@@ -18,7 +18,7 @@ use Rattle.hk_app.specs.declared.reading.Gathered.{Gathered}
 use Rattle.hk_app.specs.declared.reading.Gathered.TheVariants.{Refused, Planned}
 use Rattle.hk_app.specs.Gathering.{RefusesReading, ReadsAs, RefusesFolder, Gathers}
 use Rattle.hk_app.specs.Promise.{IsBadRules, IsBadSite, IsPlanOf}
-use Rattle.hk_app.specs.Site.{Reading, planned, found_at, rules_path, is_read, are_read, unignored, files_reading, text_reading, reading}
+use Rattle.hk_app.specs.FolderReading.{Reading, planned, found_at, rules_path, is_read, are_read, unignored, files_reading, text_reading, reading}
 use Rattle.hk_app.specs.World.{Folder}
 use Rattle.hk_app.proofs.FolderReads.{same_key}
 

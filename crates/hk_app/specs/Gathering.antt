@@ -11,7 +11,7 @@ use Rattle.hk_app.specs.declared.status.Status.{Status}
 use Rattle.hk_app.specs.declared.status.Status.TheVariants.{BadRules, BadSite, ReadFault}
 use Rattle.hk_app.specs.declared.reading.Gathered.{Gathered}
 use Rattle.hk_app.specs.declared.reading.Gathered.TheVariants.{Refused, Planned}
-use Rattle.hk_app.specs.Site.{Reading, planned, reading}
+use Rattle.hk_app.specs.FolderReading.{Reading, planned, reading}
 use Rattle.hk_texts.specs.Printed.{read_fault_line}
 use Rattle.hk_app.specs.Promise.{IsBadRules, IsBadSite, IsPlanOf}
 use Rattle.hk_app.specs.World.{Folder}

@@ -2,14 +2,14 @@ pub mod Beginning
 pub mod Checking
 pub mod Cleaning
 pub mod Finishing
+pub mod FolderReading
 pub mod Gathering
 pub mod Generated
 pub mod Generating
 pub mod Linking
+pub mod PathReading
 pub mod Promise
-pub mod Reading
 pub mod Run
-pub mod Site
 pub mod Standing
 pub mod Status
 pub mod TakenBy

@@ -32,7 +32,7 @@ use Rattle.hk_app.specs.declared.status.Status.{Status}
 use Rattle.hk_app.specs.declared.status.Status.TheVariants.{Ok as Done, Report, Usage, BadRules, BadSite, ReadFault, WriteFault}
 use Rattle.hk_app.specs.declared.status.Status.TheVariants.{StoreFault, OutFault, NoMemory, BadLinks}
 use Rattle.hk_app.specs.Generated.{site_line}
-use Rattle.hk_app.specs.Site.{Reading, absent, refused, unplanned, planned, files_reading, reading}
+use Rattle.hk_app.specs.FolderReading.{Reading, absent, refused, unplanned, planned, files_reading, reading}
 use Rattle.hk_app.specs.Standing.{Same, Told, SameButStore, LostSome, HoldsOnly, IsCleared, IsSaved, IsPartly, IsTorn, written, removed}
 use Rattle.hk_app.specs.Taking.{Taken, Takes, TakesAny, nothing}
 use Rattle.hk_app.specs.World.{Folder, Output, Folders}

@@ -7,9 +7,9 @@ ghost use Rattle.std.specs.FinMap.{entries};
 ghost use Rattle.std.specs.BTreeSet.{IsFromIterResult};
 ghost use Rattle.hk_base.specs.Bytes.{ascends, paths_of};
 ghost use Rattle.hk_outside.specs.Causes.{HasCause};
-ghost use Rattle.hk_app.specs.Reading.{read_at};
-ghost use Rattle.hk_app.specs.Site as spec;
-ghost use Rattle.hk_app.specs.Site.{are_read};
+ghost use Rattle.hk_app.specs.PathReading.{read_at};
+ghost use Rattle.hk_app.specs.FolderReading as spec;
+ghost use Rattle.hk_app.specs.FolderReading.{are_read};
 
 use hk_base::Text;
 use hk_outside::{Tree, TreeFault};

@@ -3,8 +3,8 @@ ghost use Rattle.std.specs.Prelude.{◌≡◌, ◌≤◌, IfOk, option_map};
 ghost use Rattle.hk_build.specs.SitePlan.{site_plan};
 ghost use Rattle.hk_app.specs.Gathering.{AreRead, ReadsAs, Gathers};
 ghost use Rattle.hk_app.specs.Promise.{fault_line};
-ghost use Rattle.hk_app.specs.Site as spec;
-ghost use Rattle.hk_app.specs.Site.{files_reading, plan_reading, rules_path, found_at};
+ghost use Rattle.hk_app.specs.FolderReading as spec;
+ghost use Rattle.hk_app.specs.FolderReading.{files_reading, plan_reading, rules_path, found_at};
 ghost use Rattle.hk_app.specs.World.{folder};
 ghost use Rattle.hk_texts.specs.Printed as printed;
 

@@ -1,2 +1,3 @@
 pub mod Layouts
 pub mod Spans
+pub mod Sorting

@@ -4,5 +4,7 @@ pub mod Facts
 pub mod Kept
 pub mod Layout
 pub mod Marks
+pub mod Names
 pub mod Snapshots
+pub mod Sorting
 pub mod Traces

@@ -12,11 +12,11 @@ use Rattle.hk_eval.specs.Going.{Goes, Steps, Stops}
 use Rattle.hk_eval.specs.Leading.{Leads, Went}
 use Rattle.hk_eval.specs.Noted.{noted}
 use Rattle.hk_eval.specs.Quiet.{Quiet}
-use Rattle.hk_eval.specs.declared.moves.Step.{Step}
-use Rattle.hk_eval.specs.declared.moves.Step.TheVariants as steps
+use Rattle.hk_eval.specs.declared.moves.Act.{Act}
+use Rattle.hk_eval.specs.declared.moves.Act.TheVariants as acts
 use Rattle.hk_eval.specs.declared.moves.Stop.{Stop}
 use Rattle.hk_eval.specs.declared.moves.Stop.TheVariants as stops
-use Rattle.hk_eval.proofs.Firsts.{noted-append}
+use Rattle.hk_eval.proofs.NotedLogs.{noted-append}
 use Rattle.hk_eval.proofs.Running.{leads-on, leads-more, quiet-run, saves-append}
 
 pub goes-none : (k : Pages) (t u : Task Bytes) (f : FactsView) → t ≡ u → Goes k t f u f
@@ -37,22 +37,22 @@ module _ (k : Pages) (t u w : Task Bytes) (f g h : FactsView) (so : Goes k t f u
         leads = leads-on k t u w so.log s.log so.leads s.leads;
       }
 
-  module _ (out : Bytes) (step : Step) (s : Steps k u g step w h out) where
-    taken : (v : Step) → step ≡ v → Steps k u g v w h out
+  module _ (out : Bytes) (step : Act) (s : Steps k u g step w h out) where
+    taken : (v : Act) → step ≡ v → Steps k u g v w h out
     taken v e = subst (λ v. Steps k u g v w h out) e s
 
-    pub then-goes : step ≡ steps.Goes → Goes k t f w h
-    then-goes e = goes-both (taken steps.Goes e)
+    pub then-goes : step ≡ acts.Goes → Goes k t f w h
+    then-goes e = goes-both (taken acts.Goes e)
 
-    pub then-asks : (stop : Stop) (pairs : Vec PairNo Global) → step ≡ steps.Asks pairs → stop ≡ stops.Asks pairs → Stops k t f stop w h
+    pub then-asks : (stop : Stop) (pairs : Vec PairNo Global) → step ≡ acts.Asks pairs → stop ≡ stops.Asks pairs → Stops k t f stop w h
     then-asks stop pairs e q =
-        let a = taken (steps.Asks pairs) e in
+        let a = taken (acts.Asks pairs) e in
         subst (λ v. Stops k t f v w h) (sym q)
         (goes-both (record { log = []; notes = a.2; leads = λ m ext. ap (λ x. run x m) (sym a.1) }), ap (λ (x : Task Bytes). (run x k).end) a.1 ∙ a.0)
 
-    pub then-text : (stop : Stop) (text : Bytes) (v : Task Bytes) → step ≡ steps.Done → stop ≡ stops.Text text → text ≡ out → Stops k t f stop v h
+    pub then-text : (stop : Stop) (text : Bytes) (v : Task Bytes) → step ≡ acts.Done → stop ≡ stops.Text text → text ≡ out → Stops k t f stop v h
     then-text stop text v e q is =
-        let a = taken steps.Done e in
+        let a = taken acts.Done e in
         subst (λ x. Stops k t f x v h) (sym q)
         (record {
           log = so.log;
@@ -60,8 +60,8 @@ module _ (k : Pages) (t u w : Task Bytes) (f g h : FactsView) (so : Goes k t f u
           leads = subst (λ (x : Task Bytes). Leads k t so.log x) (a.0 ∙ ap gives (sym is)) so.leads;
         })
 
-    pub then-stops : (stop : Stop) (x : Fault) (v : Task Bytes) → step ≡ steps.Fails x → stop ≡ stops.Fails x → Stops k t f stop v h
-    then-stops stop x v e q = subst (λ y. Stops k t f y v h) (sym q) (goes-end k t u f g so ∙ taken (steps.Fails x) e)
+    pub then-stops : (stop : Stop) (x : Fault) (v : Task Bytes) → step ≡ acts.Fails x → stop ≡ stops.Fails x → Stops k t f stop v h
+    then-stops stop x v e q = subst (λ y. Stops k t f y v h) (sym q) (goes-end k t u f g so ∙ taken (acts.Fails x) e)
 
 -- what a task that saves nothing leads to saves nothing either
 none-before : {A : Type 0} (xs ys : List A) → xs ++ ys ≡ [] → xs ≡ []

@@ -11,7 +11,7 @@ use Rattle.hk_chain.specs.declared.page.Page.{Page}
 use Rattle.hk_fix.specs.Pages.{Pages, lacking}
 use Rattle.hk_fix.specs.Run.{is_wait}
 use Rattle.hk_fix.specs.Task.{Task, notes, used, ◌▷◌, Mark, asked, note, End, done, fault, waits, Run, run, onward}
-use Rattle.hk_rules.specs.Pairs.{final_name}
+use Rattle.hk_chain.specs.Names.{final_name}
 use Rattle.hk_rules.specs.Plan.{Lookups}
 use Rattle.hk_template.specs.Growing.{read_tree}
 use Rattle.hk_template.specs.Tree.{Nodes}

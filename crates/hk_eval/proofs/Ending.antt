@@ -32,7 +32,7 @@ use Rattle.hk_eval.specs.declared.render_step.RenderStep.TheVariants as steps
 use Rattle.hk_eval.specs.declared.stack.Stack.{Stack}
 use Rattle.hk_eval.proofs.Advancing.{goes-both, goes-end, goes-more}
 use Rattle.hk_eval.proofs.Awaiting.{all-out}
-use Rattle.hk_eval.proofs.Firsts.{FreshSaves, noted-facts}
+use Rattle.hk_eval.proofs.NotedLogs.{FreshSaves, noted-facts}
 use Rattle.hk_eval.proofs.Once.{render-once}
 use Rattle.hk_eval.proofs.Running.{quiet-run}
 

@@ -18,7 +18,7 @@ use Rattle.hk_meta.specs.declared.date.Moment.{Moment}
 use Rattle.hk_rules.specs.Plan.{Lookups}
 use Rattle.hk_eval.specs.Asking.{need_text, ask_text, ask_all, other_kind}
 use Rattle.hk_eval.specs.Fields.{text_if_any, flag_if, body_text, teaser_text, fits, own_task, value_task, or_task, first_task, field_task, date_at}
-use Rattle.hk_eval.specs.Lists.{places_of, Dated, with_date, dated, moment_cmp, put_dated, by_date, place_in, chronological, reversed, ordered, limited, limited_task, places_by, places_task, list_task}
+use Rattle.hk_eval.specs.Lists.{places_of, Dated, with_date, dated, is_earlier, by_date, place_in, chronological, reversed, ordered, limited, limited_task, places_by, places_task, list_task}
 use Rattle.hk_eval.specs.Renderable.{IsRenderableField, IsRenderable}
 use Rattle.hk_eval.specs.Replies.{look_end, listed_end, Comes, RunsOn, IsListingWithin, IsPlaceWithin, ArePlacesWithin}
 use Rattle.hk_eval.specs.Value.{Listing, Value, absent, text, flag, list}
@@ -27,6 +27,7 @@ use Rattle.hk_eval.specs.declared.listed.Listed.TheVariants as lists
 use Rattle.hk_eval.specs.declared.look.Look.{Look}
 use Rattle.hk_eval.specs.declared.look.Look.TheVariants as looks
 use Rattle.hk_eval.specs.declared.place.Place.{Place}
+use Rattle.hk_chain.specs.Sorting.{put_by, sorted_by}
 
 abbrev pub AllGive : {A : Type 0} → (A → Type 0) → Task A → Type 0
 AllGive G (gives x) = G x
@@ -140,9 +141,9 @@ module _ (P : Place → Type 0) where
   abbrev AllDated : List Dated → Type 0
   AllDated ds = AllByRecursion (λ (d : Dated). P d.place) ds
 
-  all-put : (d : Dated) (ds : List Dated) → P d.place → AllDated ds → AllDated (put_dated d ds)
+  all-put : (d : Dated) (ds : List Dated) → P d.place → AllDated ds → AllDated (put_by is_earlier d ds)
   all-put d [] p a = (p, tt)
-  all-put d (e ∷ ds) p a = elim (is_lt (moment_cmp e.date d.date)) as (λ b. AllDated (cond b (e ∷ put_dated d ds) (d ∷ e ∷ ds))) [
+  all-put d (e ∷ ds) p a = elim (is_earlier e d) as (λ b. AllDated (cond b (e ∷ put_by is_earlier d ds) (d ∷ e ∷ ds))) [
     | true ↦ (a.0, all-put d ds p a.1)
     | false ↦ (p, a)
   ]

@@ -3,7 +3,7 @@ pub mod Awaiting
 pub mod Blocks
 pub mod Comings
 pub mod Ending
-pub mod Firsts
+pub mod NotedLogs
 pub mod Following
 pub mod Forms
 pub mod Giving
@@ -23,7 +23,6 @@ pub mod PlanNames
 pub mod Renderables
 pub mod Repeating
 pub mod Running
-pub mod Sorting
 pub mod Stacks
 pub mod Telling
 mod Worked

@@ -16,7 +16,7 @@ use Rattle.hk_eval.specs.Value.{Value, absent, text, flag, list}
 use Rattle.hk_eval.specs.declared.look.Look.{Look}
 use Rattle.hk_eval.specs.declared.look.Look.TheVariants as looks
 use Rattle.hk_eval.specs.declared.place.Place.{Place}
-use Rattle.hk_eval.proofs.Firsts.{noted-append}
+use Rattle.hk_eval.proofs.NotedLogs.{noted-append}
 
 pub singles-append : (ps qs : List ℕ) → singles (ps ++ qs) ≡ singles ps ++ singles qs
 singles-append [] qs = refl

@@ -19,14 +19,15 @@ use Rattle.hk_eval.specs.PlanTable.{IsTableOf}
 use Rattle.hk_rules.specs.Recipe.{context_name}
 use Rattle.hk_eval.specs.Asking.{ask_all, other_kind}
 use Rattle.hk_eval.specs.Fields.{date_at}
-use Rattle.hk_eval.specs.Lists.{places_of, Dated, with_date, dated, moment_cmp, put_dated, by_date, place_in, chronological, reversed, ordered, limited, limited_task, places_by, places_task, list_task}
+use Rattle.hk_eval.specs.Lists.{places_of, Dated, with_date, dated, is_earlier, by_date, place_in, chronological, reversed, ordered, limited, limited_task, places_by, places_task, list_task}
 use Rattle.hk_eval.specs.NamedAsking.{keys_named, other_named}
-use Rattle.hk_eval.specs.NamedLists.{named_places, DatedPlace, add_dated, dated_places, put_place, places_by_date, undated, in_time, backwards, in_order, at_most, limited_deed, places_deed_by, places_deed, list_deed}
+use Rattle.hk_eval.specs.NamedLists.{named_places, DatedPlace, add_dated, dated_places, comes_earlier, places_by_date, undated, in_time, backwards, in_order, at_most, limited_deed, places_deed_by, places_deed, list_deed}
 use Rattle.hk_eval.specs.NamedPlaces.{named_place, named_listing}
 use Rattle.hk_eval.specs.NamedValue.{NamedPlace}
 use Rattle.hk_eval.specs.Value.{Listing}
 use Rattle.hk_eval.specs.declared.place.Place.{Place}
 use Rattle.hk_eval.proofs.NamedAsks.{group_traits, group-same, match-same, other-same}
+use Rattle.hk_chain.specs.Sorting.{put_by, sorted_by}
 
 -- ---- order and limit
 
@@ -51,17 +52,17 @@ module _ (plan : Lookups) where
   dated-same [] = refl
   dated-same (p ∷ ps) = ap (add_dated (named_place plan p) (date_at plan p.item)) (dated-same ps) ∙ add-same p (date_at plan p.item) (dated plan ps)
 
-  put-same : (d : Dated) (es : List Dated) → put_place (one d) (map one es) ≡ map one (put_dated d es)
+  put-same : (d : Dated) (es : List Dated) → put_by comes_earlier (one d) (map one es) ≡ map one (put_by is_earlier d es)
   put-same d [] = refl
-  put-same d (e ∷ es) = at (is_lt (moment_cmp e.date d.date)) (put-same d es)
+  put-same d (e ∷ es) = at (is_earlier e d) (put-same d es)
     where
-      at : (b : Bool) → put_place (one d) (map one es) ≡ map one (put_dated d es) → cond b (one e ∷ put_place (one d) (map one es)) (one d ∷ one e ∷ map one es) ≡ map one (cond b (e ∷ put_dated d es) (d ∷ e ∷ es))
+      at : (b : Bool) → put_by comes_earlier (one d) (map one es) ≡ map one (put_by is_earlier d es) → cond b (one e ∷ put_by comes_earlier (one d) (map one es)) (one d ∷ one e ∷ map one es) ≡ map one (cond b (e ∷ put_by is_earlier d es) (d ∷ e ∷ es))
       at true w = ap (λ l. one e ∷ l) w
       at false w = refl
 
   by-date-same : (ds : List Dated) → places_by_date (map one ds) ≡ map one (by_date ds)
   by-date-same [] = refl
-  by-date-same (d ∷ ds) = ap (put_place (one d)) (by-date-same ds) ∙ put-same d (by_date ds)
+  by-date-same (d ∷ ds) = ap (put_by comes_earlier (one d)) (by-date-same ds) ∙ put-same d (by_date ds)
 
   undated-same : (ds : List Dated) → map undated (map one ds) ≡ map (named_place plan) (map place_in ds)
   undated-same [] = refl

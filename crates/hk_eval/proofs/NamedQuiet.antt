@@ -11,7 +11,7 @@ use Rattle.hk_chain.specs.declared.page.Page.{Page}
 use Rattle.hk_fix.specs.Deed.{Deed, returns, ◌then◌, IsNumber, IsQuiet}
 use Rattle.hk_fix.specs.DeedLaws.{quiet-then}
 use Rattle.hk_fix.specs.Table.{Table, same_key}
-use Rattle.hk_rules.specs.Pairs.{final_name}
+use Rattle.hk_chain.specs.Names.{final_name}
 use Rattle.hk_rules.specs.Recipe as recipes
 use Rattle.hk_rules.specs.Recipe.{NamedContext, NamedField, NamedList, FieldHas, ContextsHave}
 use Rattle.hk_template.specs.Growing.{read_tree}

@@ -17,7 +17,7 @@ use Rattle.hk_fix.specs.Table.{Table}
 use Rattle.hk_fix.specs.Task.{Task, gives, ◌▷◌}
 use Rattle.hk_fix.specs.TaskLaws.{bind_assoc}
 use Rattle.hk_html.specs.Teasers.{teaser_of}
-use Rattle.hk_rules.specs.Pairs.{final_name}
+use Rattle.hk_chain.specs.Names.{final_name}
 use Rattle.hk_rules.specs.Plan.{Lookups}
 use Rattle.hk_eval.specs.PlanTable.{IsTableOf}
 use Rattle.hk_rules.specs.Recipe.{NamedContext, context_name, named_field, named_context, is_among, IsFieldAmong, AreClosed}

@@ -10,7 +10,7 @@ use Rattle.hk_fix.specs.Run.{Save, asks_of, saves_of, lacked, is_wait}
 use Rattle.hk_eval.specs.Quiet.{Quiet}
 use Rattle.hk_eval.specs.Leading.{Leads, Went}
 use Rattle.hk_eval.specs.Noted.{noted}
-use Rattle.hk_eval.proofs.Firsts.{noted-append}
+use Rattle.hk_eval.proofs.NotedLogs.{noted-append}
 
 module _ {A B : Type 0} (k : Pages) (t : Task A) (f : A → Task B) where
   pub bind-done : (log : List Mark) (v : A) → run t k ≡ record { log = log; end = done v } → run (t ▷ f) k ≡ onward log (run (f v) k)

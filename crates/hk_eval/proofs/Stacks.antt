@@ -30,8 +30,8 @@ use Rattle.hk_eval.specs.declared.frame.Stage.TheVariants.{First, Second, Third,
 use Rattle.hk_eval.specs.declared.frame.Wanted.{Wanted}
 use Rattle.hk_eval.specs.declared.moves.Move.{Move}
 use Rattle.hk_eval.specs.declared.moves.Move.TheVariants as moves
-use Rattle.hk_eval.specs.declared.moves.Step.{Step}
-use Rattle.hk_eval.specs.declared.moves.Step.TheVariants as steps
+use Rattle.hk_eval.specs.declared.moves.Act.{Act}
+use Rattle.hk_eval.specs.declared.moves.Act.TheVariants as acts
 use Rattle.hk_eval.specs.declared.place.Place.{Place}
 use Rattle.hk_eval.proofs.Following.{leads-bind, leads-done}
 use Rattle.hk_eval.proofs.Running.{bind-waits, bind-faults}
@@ -97,7 +97,7 @@ module _ (plan : Lookups) (fs : List Frame) (s : Section) (out : Bytes) where
     -- what a node came to, as a step of the stack
     module _ (k : Pages) (old new : FactsView) (more : Bytes) where
       pub step-wrote : (now : List Frame) → now ≡ fs ++ frames.Nodes (record s { at = s.at + 1 }) ∷ [] → Moves plan k (node_task plan (partial_at plan s.left) n s.here) old out moves.Wrote new more
-          → Steps k (rest plan (fs ++ frames.Nodes s ∷ []) out) old steps.Goes (rest plan now more) new more
+          → Steps k (rest plan (fs ++ frames.Nodes s ∷ []) out) old acts.Goes (rest plan now more) new more
       step-wrote now e h =
           record {
             log = h.log;
@@ -108,7 +108,7 @@ module _ (plan : Lookups) (fs : List Frame) (s : Section) (out : Bytes) where
           }
 
       pub step-pushed : (now : List Frame) (f : Frame) → now ≡ (fs ++ frames.Nodes (record s { at = s.at + 1 }) ∷ []) ++ f ∷ [] → Moves plan k (node_task plan (partial_at plan s.left) n s.here) old out (moves.Push f) new more
-          → Steps k (rest plan (fs ++ frames.Nodes s ∷ []) out) old steps.Goes (rest plan now more) new more
+          → Steps k (rest plan (fs ++ frames.Nodes s ∷ []) out) old acts.Goes (rest plan now more) new more
       step-pushed now f e h =
           let u : Bytes → Task Bytes = rest plan (fs ++ later ∷ []) in
           record {
@@ -119,8 +119,8 @@ module _ (plan : Lookups) (fs : List Frame) (s : Section) (out : Bytes) where
                 (leads-bind k (onto out task) (frame_rest plan f out) h.log u (h.leads out)));
           }
 
-      pub step-asks : (now : List Frame) (step : Step) (move : Move) → Moves plan k (node_task plan (partial_at plan s.left) n s.here) old out move new more → now ≡ fs ++ frames.Nodes s ∷ []
-          → (pairs : Vec PairNo Global) → move ≡ moves.Asks pairs → step ≡ steps.Asks pairs → Steps k (rest plan (fs ++ frames.Nodes s ∷ []) out) old step (rest plan now more) new more
+      pub step-asks : (now : List Frame) (step : Act) (move : Move) → Moves plan k (node_task plan (partial_at plan s.left) n s.here) old out move new more → now ≡ fs ++ frames.Nodes s ∷ []
+          → (pairs : Vec PairNo Global) → move ≡ moves.Asks pairs → step ≡ acts.Asks pairs → Steps k (rest plan (fs ++ frames.Nodes s ∷ []) out) old step (rest plan now more) new more
       step-asks now step move m e pairs a b =
           let h : Moves plan k task old out (moves.Asks pairs) new more = subst (λ v. Moves plan k task old out v new more) a m in
           subst (λ v. Steps k (rest plan (fs ++ frames.Nodes s ∷ []) out) old v (rest plan now more) new more) (sym b) (
@@ -129,7 +129,7 @@ module _ (plan : Lookups) (fs : List Frame) (s : Section) (out : Bytes) where
             h.1,
           )
 
-      pub step-fails : (u : Task Bytes) (x : Fault) → Moves plan k (node_task plan (partial_at plan s.left) n s.here) old out (moves.Fails x) new more → Steps k (rest plan (fs ++ frames.Nodes s ∷ []) out) old (steps.Fails x) u new more
+      pub step-fails : (u : Task Bytes) (x : Fault) → Moves plan k (node_task plan (partial_at plan s.left) n s.here) old out (moves.Fails x) new more → Steps k (rest plan (fs ++ frames.Nodes s ∷ []) out) old (acts.Fails x) u new more
       step-fails u x h = ap (λ (w : Task Bytes). (run w k).end) nodes-next ∙ ap (λ (r : Run Bytes). r.end) (bind-faults k task (λ x. rest plan (fs ++ later ∷ []) (out ++ x)) x h)
 
 -- a list that is made
@@ -141,7 +141,7 @@ module _ (plan : Lookups) (fs : List Frame) (w : Wanted) (r : Repeat) (out : Byt
   make-next = rest-snoc plan fs (frames.Make w r) out ∙ bind_assoc (list_task plan (wanted_list w)) shown (rest plan fs)
 
   module _ (k : Pages) (old new : FactsView) (e : End (List Place)) (came : Comes k (list_task plan (wanted_list w)) old e new) where
-    pub made-places : (now : List Frame) (ps : Places) → now ≡ fs ++ frames.List ps First r ∷ [] → ps.next ≡ 0 → e ≡ done ps.places.items → Steps k (rest plan (fs ++ frames.Make w r ∷ []) out) old steps.Goes (rest plan now out) new out
+    pub made-places : (now : List Frame) (ps : Places) → now ≡ fs ++ frames.List ps First r ∷ [] → ps.next ≡ 0 → e ≡ done ps.places.items → Steps k (rest plan (fs ++ frames.Make w r ∷ []) out) old acts.Goes (rest plan now out) new out
     made-places now ps is zero_ q =
         let c : Comes k (list_task plan (wanted_list w)) old (done ps.places.items) new = subst (λ v. Comes k (list_task plan (wanted_list w)) old v new) q came in
         let s : shown ps.places.items ▷ rest plan fs ≡ rest plan now out =
@@ -154,7 +154,7 @@ module _ (plan : Lookups) (fs : List Frame) (w : Wanted) (r : Repeat) (out : Byt
               (leads-done k (list_task plan (wanted_list w)) (λ ps. shown ps ▷ rest plan fs) c.0 ps.places.items c.1));
         }
 
-    pub made-asks : (now : List Frame) (pairs : Vec PairNo Global) → now ≡ fs ++ frames.Make w r ∷ [] → e ≡ waits pairs.items → Steps k (rest plan (fs ++ frames.Make w r ∷ []) out) old (steps.Asks pairs) (rest plan now out) new out
+    pub made-asks : (now : List Frame) (pairs : Vec PairNo Global) → now ≡ fs ++ frames.Make w r ∷ [] → e ≡ waits pairs.items → Steps k (rest plan (fs ++ frames.Make w r ∷ []) out) old (acts.Asks pairs) (rest plan now out) new out
     made-asks now pairs is q =
         let c : Comes k (list_task plan (wanted_list w)) old (waits pairs.items) new = subst (λ v. Comes k (list_task plan (wanted_list w)) old v new) q came in (
           ap (λ (t : Task Bytes). (run t k).end) make-next ∙ ap (λ (r : Run Bytes). r.end) (bind-waits k (list_task plan (wanted_list w)) (λ ps. shown ps ▷ rest plan fs) pairs.items c.0),
@@ -162,7 +162,7 @@ module _ (plan : Lookups) (fs : List Frame) (w : Wanted) (r : Repeat) (out : Byt
           c.1,
         )
 
-    pub made-fails : (u : Task Bytes) (x : Fault) → e ≡ fault x → Steps k (rest plan (fs ++ frames.Make w r ∷ []) out) old (steps.Fails x) u new out
+    pub made-fails : (u : Task Bytes) (x : Fault) → e ≡ fault x → Steps k (rest plan (fs ++ frames.Make w r ∷ []) out) old (acts.Fails x) u new out
     made-fails u x q =
         let c : Comes k (list_task plan (wanted_list w)) old (fault x) new = subst (λ v. Comes k (list_task plan (wanted_list w)) old v new) q came in
         ap (λ (t : Task Bytes). (run t k).end) make-next ∙ ap (λ (r : Run Bytes). r.end) (bind-faults k (list_task plan (wanted_list w)) (λ ps. shown ps ▷ rest plan fs) x c)

@@ -17,7 +17,7 @@ use Rattle.hk_meta.specs.Date.{read_day, read_time}
 use Rattle.hk_meta.specs.DateFormat.{form_text}
 use Rattle.std.specs.Fmt.{digits}
 use Rattle.hk_meta.specs.Metadata.{Pairs}
-use Rattle.hk_rules.specs.Pairs.{final_name}
+use Rattle.hk_chain.specs.Names.{final_name}
 use Rattle.hk_rules.specs.Plan.{Lookups}
 use Rattle.hk_template.specs.Cut.{cut, token_at, tag_of, word_of}
 use Rattle.hk_template.specs.Growing.{read_tree}

@@ -11,15 +11,11 @@ use Rattle.hk_meta.specs.Date.{date_of, last_component}
 use Rattle.hk_meta.specs.DateFormat.{format_date}
 use Rattle.hk_meta.specs.Metadata.{value_of}
 use Rattle.hk_meta.specs.declared.date.Moment.{Moment}
-use Rattle.hk_route.specs.Rewriting.{extension_at, front_by}
+use Rattle.hk_route.specs.Rewriting.{without_extension}
 use Rattle.hk_rules.specs.Plan.{Lookups}
 use Rattle.hk_eval.specs.Asking.{need_text, ask_text}
 use Rattle.hk_eval.specs.Value.{Value, absent, text, flag, list}
 use Rattle.hk_eval.specs.declared.place.Place.{Place}
-
--- a component of a path without its extension
-abbrev pub without_extension : Bytes → Bytes
-without_extension name = front_by name (extension_at true name)
 
 -- the last component of a path, without its extension
 abbrev pub title_of : Bytes → Bytes

@@ -13,8 +13,8 @@ use Rattle.hk_eval.specs.Within.{IsFrameOf}
 use Rattle.hk_eval.specs.declared.frame.Frame.{Frame}
 use Rattle.hk_eval.specs.declared.moves.Move.{Move}
 use Rattle.hk_eval.specs.declared.moves.Move.TheVariants as moves
-use Rattle.hk_eval.specs.declared.moves.Step.{Step}
-use Rattle.hk_eval.specs.declared.moves.Step.TheVariants as steps
+use Rattle.hk_eval.specs.declared.moves.Act.{Act}
+use Rattle.hk_eval.specs.declared.moves.Act.TheVariants as acts
 use Rattle.hk_eval.specs.declared.moves.Stop.{Stop}
 use Rattle.hk_eval.specs.declared.moves.Stop.TheVariants as stops
 
@@ -52,11 +52,11 @@ IsMoveOf plan (moves.Push frame) = IsFrameOf plan frame
 IsMoveOf plan _ = Unit {0}
 
 -- what a step of a task comes to, with what is left of it and the text at the end
-abbrev pub Steps : Pages → Task Bytes → FactsView → Step → Task Bytes → FactsView → Bytes → Type 0
-Steps k t old steps.Goes u new out = Goes k t old u new
-Steps k t old (steps.Asks pairs) u new out = ((run t k).end ≡ waits pairs.items) × (u ≡ t) × (new ≡ old)
-Steps k t old steps.Done u new out = (t ≡ gives out) × (new ≡ old)
-Steps k t old (steps.Fails e) u new out = (run t k).end ≡ fault e
+abbrev pub Steps : Pages → Task Bytes → FactsView → Act → Task Bytes → FactsView → Bytes → Type 0
+Steps k t old acts.Goes u new out = Goes k t old u new
+Steps k t old (acts.Asks pairs) u new out = ((run t k).end ≡ waits pairs.items) × (u ≡ t) × (new ≡ old)
+Steps k t old acts.Done u new out = (t ≡ gives out) × (new ≡ old)
+Steps k t old (acts.Fails e) u new out = (run t k).end ≡ fault e
 
 -- what the steps of a task up to a stop come to: a wait in which the rest of it ends; its text; a fault
 abbrev pub Stops : Pages → Task Bytes → FactsView → Stop → Task Bytes → FactsView → Type 0

@@ -1,13 +1,14 @@
 -- The places of a list.
-use Rattle.std.specs.Prelude.{ℕ, cond, List, [], ◌∷◌, map, reverse, take, Option, Some, None, Result, Ok, Err}
-use Rattle.std.specs.Ordering.{int_cmp, nat_cmp, ordering_then, is_lt}
-use Rattle.std.specs.declared.cmp.Ordering.{Ordering}
+use Rattle.std.specs.Prelude.{ℕ, Bool, List, [], ◌∷◌, map, reverse, take, Option, Some, None, Result, Ok, Err}
+use Rattle.std.specs.Ordering.{is_lt}
+use Rattle.hk_chain.specs.Sorting.{sorted_by}
 use Rattle.hk_chain.specs.declared.context.Order.{Order}
 use Rattle.hk_chain.specs.declared.context.Order.TheVariants as orders
 use Rattle.hk_chain.specs.declared.page.Page.{Page}
 use Rattle.hk_chain.specs.declared.fault.Fault.TheVariants.{WrongKind, NoDate}
 use Rattle.hk_fix.specs.Task.{Task, gives, fails, notes, used, ◌▷◌}
 use Rattle.hk_meta.specs.declared.date.Moment.{Moment}
+use Rattle.hk_meta.specs.Moments.{moment_cmp}
 use Rattle.hk_rules.specs.Plan.{Lookups}
 use Rattle.hk_eval.specs.Asking.{ask_all, other_kind}
 use Rattle.hk_eval.specs.Fields.{date_at}
@@ -32,21 +33,12 @@ abbrev pub dated : Lookups → List Place → Result (List Dated) ℕ
 dated plan [] = Ok []
 dated plan (place ∷ places) = with_date place (date_at plan place.item) (dated plan places)
 
--- the order of time
-abbrev pub moment_cmp : Moment → Moment → Ordering
-moment_cmp a b =
-    ordering_then (int_cmp a.year b.year) (ordering_then (nat_cmp a.month b.month) (ordering_then (nat_cmp a.day b.day)
-    (ordering_then (nat_cmp a.hour b.hour) (ordering_then (nat_cmp a.minute b.minute) (nat_cmp a.second b.second)))))
-
--- one more in front of those of the same time, behind all earlier ones
-abbrev pub put_dated : Dated → List Dated → List Dated
-put_dated d [] = d ∷ []
-put_dated d (e ∷ es) = cond (is_lt (moment_cmp e.date d.date)) (e ∷ put_dated d es) (d ∷ e ∷ es)
+abbrev pub is_earlier : Dated → Dated → Bool
+is_earlier a b = is_lt (moment_cmp a.date b.date)
 
 -- in the order of time; those of the same time stay as they stand
 abbrev pub by_date : List Dated → List Dated
-by_date [] = []
-by_date (d ∷ ds) = put_dated d (by_date ds)
+by_date ds = sorted_by is_earlier ds
 
 abbrev pub place_in : Dated → Place
 place_in d = d.place

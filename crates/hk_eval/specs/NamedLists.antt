@@ -1,5 +1,5 @@
 -- The places of a list, as a deed.
-use Rattle.std.specs.Prelude.{ℕ, cond, List, [], ◌∷◌, map, reverse, take, Option, Some, None, Result, Ok, Err}
+use Rattle.std.specs.Prelude.{ℕ, Bool, List, [], ◌∷◌, map, reverse, take, Option, Some, None, Result, Ok, Err}
 use Rattle.std.specs.Ordering.{is_lt}
 use Rattle.hk_base.specs.Bytes.{Bytes}
 use Rattle.hk_base.specs.Identifier.{Ident}
@@ -9,7 +9,8 @@ use Rattle.hk_chain.specs.declared.fault.Fault.TheVariants.{WrongKind, NoDate}
 use Rattle.hk_fix.specs.Deed.{Answer, Deed, returns, refuses, asking, matching}
 use Rattle.hk_meta.specs.declared.date.Moment.{Moment}
 use Rattle.hk_rules.specs.Recipe.{NamedList}
-use Rattle.hk_eval.specs.Lists.{moment_cmp}
+use Rattle.hk_chain.specs.Sorting.{sorted_by}
+use Rattle.hk_meta.specs.Moments.{moment_cmp}
 use Rattle.hk_eval.specs.NamedAsking.{keys_named, other_named}
 use Rattle.hk_eval.specs.NamedFields.{named_date}
 use Rattle.hk_eval.specs.NamedValue.{NamedPlace}
@@ -35,15 +36,12 @@ abbrev pub dated_places : List NamedPlace → Result (List DatedPlace) Ident
 dated_places [] = Ok []
 dated_places (place ∷ places) = add_dated place (named_date place) (dated_places places)
 
--- one more in front of those of the same time, behind all earlier ones
-abbrev pub put_place : DatedPlace → List DatedPlace → List DatedPlace
-put_place d [] = d ∷ []
-put_place d (e ∷ es) = cond (is_lt (moment_cmp e.date d.date)) (e ∷ put_place d es) (d ∷ e ∷ es)
+abbrev pub comes_earlier : DatedPlace → DatedPlace → Bool
+comes_earlier a b = is_lt (moment_cmp a.date b.date)
 
 -- in the order of time; those of the same time stay as they stand
 abbrev pub places_by_date : List DatedPlace → List DatedPlace
-places_by_date [] = []
-places_by_date (d ∷ ds) = put_place d (places_by_date ds)
+places_by_date ds = sorted_by comes_earlier ds
 
 abbrev pub undated : DatedPlace → NamedPlace
 undated d = d.place

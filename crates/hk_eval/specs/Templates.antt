@@ -7,7 +7,7 @@ use Rattle.hk_chain.specs.declared.page.Kind.{Kind}
 use Rattle.hk_chain.specs.declared.page.Kind.TheVariants as kinds
 use Rattle.hk_chain.specs.declared.fault.Fault.TheVariants.{BadTemplate, WrongKind}
 use Rattle.hk_fix.specs.Task.{Task, gives, fails, ◌▷◌}
-use Rattle.hk_rules.specs.Pairs.{final_name}
+use Rattle.hk_chain.specs.Names.{final_name}
 use Rattle.hk_rules.specs.Plan.{Lookups}
 use Rattle.hk_template.specs.Growing.{read_tree}
 use Rattle.hk_template.specs.Place.{fault_place}

@@ -57,7 +57,7 @@ impl Awaited {
         requires { Contains self.old pair }
         ensures { self.new ≡ filter (λ q. not (nat_eq pair q)) self.old }
     {
-        let place = place_of(self.as_slice(), pair);
+        let place = place_among(self.as_slice(), pair);
         if place == 0 {
             self.answered += 1;
         } else {
@@ -81,7 +81,7 @@ impl Awaited {
 }
 
 /// The first place of a member.
-fn place_of(pairs: &[PairNo], pair: PairNo) -> usize
+fn place_among(pairs: &[PairNo], pair: PairNo) -> usize
     requires { Contains pairs.now pair }
     ensures within { result < length pairs.now }
     ensures found { slice_index pairs.now result ≡ pair }

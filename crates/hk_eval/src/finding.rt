@@ -2,7 +2,7 @@
 ghost use Rattle.std.specs.Prelude.{◌≡◌, ◌∷◌, [], length, IfOk, Some};
 ghost use Rattle.hk_fix.specs.Pages.{Pages};
 ghost use Rattle.hk_fix.specs.Task.{run, ◌▷◌};
-ghost use Rattle.hk_rules.specs.Pairs.{final_name};
+ghost use Rattle.hk_chain.specs.Names.{final_name};
 ghost use Rattle.hk_rules.specs.Plan.{lookups};
 ghost use Rattle.hk_eval.specs.Asking.{ask_pair};
 ghost use Rattle.hk_eval.specs.Renderable.{IsRenderable};

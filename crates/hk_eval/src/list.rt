@@ -29,8 +29,8 @@ use std::alloc::Global;
 /// list's name and in the list's context. `NoSnapshot` of the first item that has no such page, `WrongKind` of the first
 /// whose page isn't text once all are told, and `NoDate` of the first without a date where the order is one of dates. Where
 /// pages are wanted that aren't told, nothing is noted, and else the pattern and the pairs are. After `NoMemory` nothing is
-/// said of the notes. Each item of the plan is tested once; then linear in the chains of those that match, logarithmic in the
-/// told pages for each, and one sort.
+/// said of the notes. Linear in the chains of the items that match, which the plan holds, logarithmic in the told pages for
+/// each, and one sort.
 pub fn list_of(
     alloc: Global,
     plan: &Plan,
@@ -44,9 +44,9 @@ pub fn list_of(
     ensures comes { IfOk result (λ r. Comes (told_pages told.now) (spec.list_task (lookups plan.now) (listing_of listing.now)) notes.old (listed_end r) notes.new) }
     ensures within { IfOk result (λ r. ArePlacesWithin (length plan.now.items) (length plan.now.contexts) r) }
 {
-    let items = plan.matches(alloc, listing.pattern)?;
-    match pairs_of(alloc, plan, &items, listing.snapshot)? {
-        Group::Pairs(pairs) => all_of(alloc, plan, told, listing, &items, &pairs, notes),
+    let items = plan.matches(listing.pattern);
+    match pairs_of(alloc, plan, items, listing.snapshot)? {
+        Group::Pairs(pairs) => all_of(alloc, plan, told, listing, items, &pairs, notes),
         Group::Lacks(item) => Ok(Listed::Fails(Fault::NoSnapshot {
             id: plan.id(item).copy(alloc)?,
             name: Text::from_slice(alloc, listing.snapshot)?,

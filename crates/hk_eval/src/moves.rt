@@ -17,7 +17,7 @@ pub enum Move {
 
 /// What one step of a stack comes to.
 #[derive(Drop)]
-pub enum Step {
+pub enum Act {
     Goes,
     /// The pages of these pairs are wanted, in order.
     Asks(Vec<PairNo>),

@@ -14,7 +14,7 @@ ghost use Rattle.hk_eval.specs.Within.{Renders, IsPlaceOf, AreFramesOf};
 use crate::block::Block;
 use crate::frame::Frame;
 use crate::making::whole;
-use crate::moves::{Step, Stop};
+use crate::moves::{Act, Stop};
 use crate::notes::Notes;
 use crate::place::Place;
 use crate::step::step;
@@ -96,13 +96,13 @@ fn advance(
 {
     for _turn in 0..u64::MAX {
         match step(alloc, plan, told, notes, frames, out)? {
-            Step::Goes => {}
-            Step::Asks(pairs) => return Ok(Stop::Asks(pairs)),
-            Step::Done => {
+            Act::Goes => {}
+            Act::Asks(pairs) => return Ok(Stop::Asks(pairs)),
+            Act::Done => {
                 let text = mem::replace(out, Vec::new(alloc));
                 return Ok(Stop::Text(Text::from_vec(text)));
             }
-            Step::Fails(fault) => return Ok(Stop::Fails(fault)),
+            Act::Fails(fault) => return Ok(Stop::Fails(fault)),
         }
     }
     Err(NoMemory)

@@ -12,7 +12,7 @@ use crate::frame::{Frame, Places, Repeat, Section, Stage, Wanted};
 use crate::list::list_of;
 use crate::listed::Listed;
 use crate::making::{listing, next};
-use crate::moves::{Move, Step};
+use crate::moves::{Act, Move};
 use crate::node::node_move;
 use crate::notes::Notes;
 use crate::series::series_step;
@@ -29,14 +29,14 @@ pub(crate) fn step(
     notes: &mut Notes,
     frames: &mut Vec<Frame>,
     out: &mut Vec<u8>,
-) -> Result<Step, NoMemory>
+) -> Result<Act, NoMemory>
     requires plan { Renders plan.now }
     requires frames { AreFramesOf plan.now frames.old.items }
     ensures steps { IfOk result (λ s. Steps (told_pages told.now) (rest (lookups plan.now) frames.old.items out.old.items) notes.old s (rest (lookups plan.now) frames.new.items out.new.items) notes.new out.new.items) }
     ensures within { IfOk result (λ _. AreFramesOf plan.now frames.new.items) }
 {
     match frames.pop() {
-        None => Ok(Step::Done),
+        None => Ok(Act::Done),
         Some(Frame::Nodes(section)) => {
             let step = nodes_step(alloc, plan, told, notes, frames, out, section)?;
             Ok(step)
@@ -47,7 +47,7 @@ pub(crate) fn step(
         }
         Some(Frame::List(places, stage, repeat)) => {
             series_step(alloc, frames, out, places, stage, repeat)?;
-            Ok(Step::Goes)
+            Ok(Act::Goes)
         }
     }
 }
@@ -61,7 +61,7 @@ fn nodes_step(
     frames: &mut Vec<Frame>,
     out: &mut Vec<u8>,
     section: Section,
-) -> Result<Step, NoMemory>
+) -> Result<Act, NoMemory>
     requires plan { Renders plan.now }
     requires frame { IsFrameOf plan.now (Frame.Nodes section) }
     requires frames { AreFramesOf plan.now frames.old.items }
@@ -70,24 +70,24 @@ fn nodes_step(
 {
     let left = section.left;
     let moved = match section.block.part(section.at) {
-        None => return Ok(Step::Goes),
+        None => return Ok(Act::Goes),
         Some(part) => node_move(alloc, plan, told, notes, out, part, left, &section.here)?,
     };
     match moved {
         Move::Wrote => {
             frames.push(next(section))?;
-            Ok(Step::Goes)
+            Ok(Act::Goes)
         }
         Move::Push(frame) => {
             frames.push(next(section))?;
             frames.push(frame)?;
-            Ok(Step::Goes)
+            Ok(Act::Goes)
         }
         Move::Asks(pairs) => {
             frames.push(Frame::Nodes(section))?;
-            Ok(Step::Asks(pairs))
+            Ok(Act::Asks(pairs))
         }
-        Move::Fails(fault) => Ok(Step::Fails(fault)),
+        Move::Fails(fault) => Ok(Act::Fails(fault)),
     }
 }
 
@@ -100,7 +100,7 @@ fn make_step(
     frames: &mut Vec<Frame>,
     wanted: Wanted,
     repeat: Repeat,
-) -> Result<Step, NoMemory>
+) -> Result<Act, NoMemory>
     requires plan { Renders plan.now }
     requires frame { IsFrameOf plan.now (Frame.Make wanted repeat) }
     requires frames { AreFramesOf plan.now frames.old.items }
@@ -112,12 +112,12 @@ fn make_step(
         Listed::Places(places) => {
             let places = Places { places, next: 0 };
             frames.push(Frame::List(places, Stage::First, repeat))?;
-            Ok(Step::Goes)
+            Ok(Act::Goes)
         }
         Listed::Asks(pairs) => {
             frames.push(Frame::Make(wanted, repeat))?;
-            Ok(Step::Asks(pairs))
+            Ok(Act::Asks(pairs))
         }
-        Listed::Fails(fault) => Ok(Step::Fails(fault)),
+        Listed::Fails(fault) => Ok(Act::Fails(fault)),
     }
 }

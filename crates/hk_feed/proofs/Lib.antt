@@ -1,7 +1,6 @@
 pub mod Accepting
 pub mod Checks
 pub mod Lists
-pub mod Sorting
 pub mod Unescaping
 pub mod Within
 pub mod Writing

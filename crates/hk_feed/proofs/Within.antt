@@ -16,8 +16,9 @@ use Rattle.hk_rules.specs.Plan.{Lookups, lookups}
 use Rattle.hk_rules.specs.PlanView.{PlanView}
 use Rattle.hk_feed.specs.Entries.{Entry, entry_of_kind, entry_by, page_by, entries_of}
 use Rattle.hk_feed.specs.Members.{is_member, members, date_at}
-use Rattle.hk_feed.specs.Recent.{Dated, dated_by, dated, moment_cmp, put_dated, by_date, item_in, latest_first, recent}
+use Rattle.hk_feed.specs.Recent.{Dated, dated_by, dated, is_earlier, by_date, item_in, latest_first, recent}
 use Rattle.hk_rules_file.specs.declared.tables.FeedRule.{FeedRule}
+use Rattle.hk_chain.specs.Sorting.{put_by, sorted_by}
 
 pub members-within : (plan : Lookups) (feed : FeedRule) → All (λ item. item < plan.count) (members plan feed)
 members-within plan feed =
@@ -36,9 +37,9 @@ module _ (P : ℕ → Type 0) where
   dated-all plan [] h = h
   dated-all plan (item ∷ items) h = dated-one item (date_at plan item) (dated plan items) h.0 (dated-all plan items h.1)
 
-  put-all : (d : Dated) (es : List Dated) → P d.item → AllDated es → AllDated (put_dated d es)
+  put-all : (d : Dated) (es : List Dated) → P d.item → AllDated es → AllDated (put_by is_earlier d es)
   put-all d [] p h = (p, h)
-  put-all d (e ∷ es) p h = elim (is_lt (moment_cmp e.date d.date)) as (λ b. AllDated (cond b (e ∷ put_dated d es) (d ∷ e ∷ es))) [
+  put-all d (e ∷ es) p h = elim (is_earlier e d) as (λ b. AllDated (cond b (e ∷ put_by is_earlier d es) (d ∷ e ∷ es))) [
     | true ↦ (h.0, put-all d es p h.1)
     | false ↦ (p, h)
   ]

@@ -1,15 +1,11 @@
 -- The title of an item.
-use Rattle.std.specs.Prelude.{ℕ, true, codes}
+use Rattle.std.specs.Prelude.{ℕ, codes}
 use Rattle.std.specs.Option.{unwrap_or}
 use Rattle.hk_base.specs.Bytes.{Bytes}
 use Rattle.hk_meta.specs.Date.{last_component}
 use Rattle.hk_meta.specs.Metadata.{value_of}
-use Rattle.hk_route.specs.Rewriting.{extension_at, front_by}
+use Rattle.hk_route.specs.Rewriting.{without_extension}
 use Rattle.hk_rules.specs.Plan.{Lookups}
-
--- a component of a path without its extension
-abbrev pub without_extension : Bytes → Bytes
-without_extension name = front_by name (extension_at true name)
 
 -- the last component of a path, without its extension
 abbrev pub title_of : Bytes → Bytes

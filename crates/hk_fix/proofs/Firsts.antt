@@ -1,8 +1,7 @@
 -- Numbers at the place of their first use.
-use Rattle.std.proofs.Common.{◌≡◌, refl, sym, ap, ◌∙◌, ℕ, ◌<◌, Bool, true, false, cond, ◌||◌, List, [], ◌∷◌, ◌++◌, append-nil, nat_eq, eqb-true, eq-eqb, arith}
+use Rattle.std.proofs.Common.{◌≡◌, refl, sym, ap, ◌∙◌, ℕ, Bool, true, false, cond, ◌||◌, List, [], ◌∷◌, ◌++◌, append-nil, nat_eq, eqb-true, arith}
 use Rattle.std.specs.List.{AllByRecursion, IsDistinct}
 use Rattle.hk_fix.specs.Facts.{is_in, firsts}
-use Rattle.hk_fix.proofs.Orders.{clash}
 use Rattle.hk_fix.proofs.Trails.{in-append}
 
 -- two lists have the same members

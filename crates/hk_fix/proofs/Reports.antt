@@ -15,7 +15,7 @@ use denote.Enum.Bare.{sameb}
 use Rattle.hk_fix.specs.contracts.cycles.Place.{the_type}
 use Rattle.hk_fix.specs.declared.cycles.Place.{Place}
 use Rattle.hk_fix.specs.declared.cycles.Place.TheVariants.{Off, Member, First}
-use Rattle.hk_fix.specs.Walks.{LeadsIn, place_by, place_of}
+use Rattle.hk_fix.specs.Walks.{LeadsIn, place_by, place_on_cycle}
 use Rattle.hk_fix.proofs.Orders.{decide}
 
 upto-next : (n : ℕ) → upto (n + 1) ≡ upto n ++ n ∷ []
@@ -80,10 +80,10 @@ blocks-other leads outcomes i o off at h = rw (off, at) (not-waiting o h)
 pub blocks-cycle : (leads : List (Option ℕ)) (outcomes : List Outcome) (i : ℕ) → on_cycle leads i ≡ true → blocks_test leads outcomes i ≡ false
 blocks-cycle leads outcomes i on = rw on refl
 
-pub off-cycle-of : (leads : List (Option ℕ)) (i : ℕ) (x : Place) → x ≡ place_of leads i → x ≡ Off → on_cycle leads i ≡ false
+pub off-cycle-of : (leads : List (Option ℕ)) (i : ℕ) (x : Place) → x ≡ place_on_cycle leads i → x ≡ Off → on_cycle leads i ≡ false
 off-cycle-of leads i x e o = off-by (on_cycle leads i) (is_least leads i) (sym e ∙ o)
 
-pub on-cycle-of : (leads : List (Option ℕ)) (i : ℕ) (x : Place) → x ≡ place_of leads i → (x ≡ Off → ⊥) → on_cycle leads i ≡ true
+pub on-cycle-of : (leads : List (Option ℕ)) (i : ℕ) (x : Place) → x ≡ place_on_cycle leads i → (x ≡ Off → ⊥) → on_cycle leads i ≡ true
 on-cycle-of leads i x e o = on-by (on_cycle leads i) (is_least leads i) (λ s. o (e ∙ s))
 
 -- reports that are empty

@@ -8,7 +8,7 @@ use Rattle.hk_fix.specs.declared.cycles.Place.{Place}
 use Rattle.hk_fix.specs.declared.cycles.Place.TheVariants.{Off}
 use Rattle.hk_fix.specs.Facts.{is_in}
 use Rattle.hk_fix.specs.Report.{trail, on_cycle, is_least, members}
-use Rattle.hk_fix.specs.Walks.{IsWalk, unreached, Walking, Walked, Marked, Searched, place_at, place_by, place_of}
+use Rattle.hk_fix.specs.Walks.{IsWalk, unreached, Walking, Walked, Marked, Searched, place_at, place_by, place_on_cycle}
 use Rattle.hk_fix.proofs.Orders.{clash, decide, or_cases, or_right}
 use Rattle.hk_fix.proofs.Trails.{or_left, in-append, in-left, in-right, in-here, split-at, Path, walk-path, walk-step, walk-off, Closed, round-closed, trail-has, greater-member, least-member, round-members}
 
@@ -113,7 +113,7 @@ module _ (leads old new : List (Option ℕ)) (places : List Place) (start : ℕ)
   path-short = omega (arith, way.few, unreached-le old, so_far.walk_count)
 
   module _ (around : List ℕ) (after : List Place) (inside : (q : ℕ) → is_in around q ≡ true → is_in way.path q ≡ true) (count : length after ≡ length places)
-      (each : (q : ℕ) → q < length leads → place_at after q ≡ cond (is_in around q) (place_of leads q) (place_at places q))
+      (each : (q : ℕ) → q < length leads → place_at after q ≡ cond (is_in around q) (place_on_cycle leads q) (place_at places q))
       (off : (q : ℕ) → is_in way.path q ≡ true → is_in around q ≡ false → on_cycle leads q ≡ false)
       (hits : (w : ℕ) → hit ≡ Some w → is_some (at_place new w) ≡ true) where
     aside : (q : ℕ) → is_in way.path q ≡ false → is_in around q ≡ false
@@ -122,7 +122,7 @@ module _ (leads old new : List (Option ℕ)) (places : List Place) (start : ℕ)
     stays : (q : ℕ) → q < length leads → is_in around q ≡ false → place_at after q ≡ place_at places q
     stays q lt o = each q lt ∙ rw o refl
 
-    right : (q : ℕ) → q < length leads → is_some (at_place new q) ≡ true → place_at after q ≡ place_of leads q
+    right : (q : ℕ) → q < length leads → is_some (at_place new q) ≡ true → place_at after q ≡ place_on_cycle leads q
     right q lt s =
         elim (decide (is_in around q)) [
           | inl i ↦ each q lt ∙ rw i refl
@@ -246,7 +246,7 @@ module _ (leads old new : List (Option ℕ)) (places : List Place) (start : ℕ)
             | inr t ↦ in-left b (w ∷ a) q t
           ]
 
-      placed : (q least : ℕ) → is_in (w ∷ reverse b) q ≡ true → is_in (w ∷ reverse b) least ≡ true → AllByRecursion (λ r. least ≤ r) (w ∷ reverse b) → place_by true (nat_eq q least) ≡ place_of leads q
+      placed : (q least : ℕ) → is_in (w ∷ reverse b) q ≡ true → is_in (w ∷ reverse b) least ≡ true → AllByRecursion (λ r. least ≤ r) (w ∷ reverse b) → place_by true (nat_eq q least) ≡ place_on_cycle leads q
       placed q least i member below =
           let on-q : on_cycle leads q ≡ true = trail-has leads w (reverse b) round (length leads) short q q i i in
           elim (decide (nat_eq q least)) [
@@ -304,7 +304,7 @@ module _ (leads old new : List (Option ℕ)) (places : List Place) (start : ℕ)
       marked-search after m =
           searched leads old new places start walked.hit so_far walked.way (w ∷ reverse b) after inside m.count each off hits
         where
-          each : (q : ℕ) → q < length leads → place_at after q ≡ cond (is_in (w ∷ reverse b) q) (place_of leads q) (place_at places q)
+          each : (q : ℕ) → q < length leads → place_at after q ≡ cond (is_in (w ∷ reverse b) q) (place_on_cycle leads q) (place_at places q)
           each q lt =
               m.each q (omega (arith, so_far.place_count)) ∙ elim (decide (is_in (w ∷ reverse b) q)) [
                 | inl i ↦ rw i (placed q m.least i m.member m.below)

@@ -1,11 +1,11 @@
 -- The facts of a run that went through.
-use Rattle.std.proofs.Common.{◌≡◌, ◌≢◌, refl, sym, ap, ◌∙◌, subst, arith, ℕ, ◌<◌, ◌≤◌, Bool, true, false, cond, ◌||◌, inl, inr, List, [], ◌∷◌, ◌++◌, append_assoc, append-nil, length, map, Option, Some, None, is_some, is_none, nat_eq, eqb-true, eq-eqb}
+use Rattle.std.proofs.Common.{◌≡◌, ◌≢◌, refl, sym, ap, ◌∙◌, subst, arith, ℕ, ◌<◌, Bool, true, false, cond, ◌||◌, inl, inr, List, [], ◌∷◌, ◌++◌, append-nil, map, Option, Some, None, is_some, is_none, nat_eq, eq-eqb}
 use Rattle.std.specs.List.{AllByRecursion, IsDistinct}
 use Rattle.std.proofs.lemmas.List.{map-append}
 use Rattle.std.proofs.lemmas.List.Elements.{recursion_from_All}
 use Rattle.hk_chain.specs.declared.page.Page.{Page}
-use Rattle.hk_chain.specs.Facts.{FactsView, TraceMark, group, save}
-use Rattle.hk_chain.specs.Layout.{Shape, IsShape, pairs, item_of, final_of}
+use Rattle.hk_chain.specs.Facts.{FactsView, TraceMark, save}
+use Rattle.hk_chain.specs.Layout.{Shape, pairs, item_of, final_of}
 use Rattle.hk_chain.specs.Snapshots.{Ascending, AreSnapshots}
 use Rattle.hk_chain.specs.Traces.{asked_in, saved_in, HasPair, AreFacts, AllAreFacts}
 use Rattle.hk_fix.specs.Facts.{is_in, firsts, group_first, trace_of, facts_of, final_mark, whole_log}

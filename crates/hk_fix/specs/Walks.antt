@@ -47,8 +47,8 @@ place_by true false = Member
 place_by true true = First
 
 -- where an item stands
-abbrev pub place_of : List (Option ℕ) → ℕ → Place
-place_of leads q = place_by (on_cycle leads q) (is_least leads q)
+abbrev pub place_on_cycle : List (Option ℕ) → ℕ → Place
+place_on_cycle leads q = place_by (on_cycle leads q) (is_least leads q)
 
 -- these items are members, the least of them first
 pub record Marked (around : List ℕ) (old new : List Place) : Type 0 where
@@ -65,5 +65,5 @@ pub record Searched (leads walks : List (Option ℕ)) (places : List Place) (sta
   pub closed : (q w : ℕ) → is_some (at_place walks q) ≡ true → at_place leads q ≡ Some w → is_some (at_place walks w) ≡ true
   pub numbers : (q v : ℕ) → at_place walks q ≡ Some v → v < start
   pub begun : (q : ℕ) → q < start → is_some (at_place walks q) ≡ true
-  pub right : (q : ℕ) → q < length leads → is_some (at_place walks q) ≡ true → place_at places q ≡ place_of leads q
+  pub right : (q : ℕ) → q < length leads → is_some (at_place walks q) ≡ true → place_at places q ≡ place_on_cycle leads q
   pub blank : (q : ℕ) → q < length leads → at_place walks q ≡ None → place_at places q ≡ Off

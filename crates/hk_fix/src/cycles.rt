@@ -3,7 +3,7 @@ ghost use Rattle.std.specs.Prelude.{◌≡◌, ◌≢◌, ℕ, ◌+◌, ◌^◌,
 ghost use Rattle.hk_chain.specs.Kept.{at_place};
 ghost use Rattle.hk_fix.specs.Report as spec;
 ghost use Rattle.hk_fix.specs.Report.{on_cycle};
-ghost use Rattle.hk_fix.specs.Walks.{LeadsIn, Walked, Marked, Searched, place_at, place_of};
+ghost use Rattle.hk_fix.specs.Walks.{LeadsIn, Walked, Marked, Searched, place_at, place_on_cycle};
 
 use hk_base::NoMemory;
 use hk_chain::ItemNo;
@@ -22,7 +22,7 @@ pub(crate) fn places(alloc: Global, leads: &[Option<u32>]) -> Result<Vec<Place>,
     requires few { length leads.now < 2 ^ 32 }
     requires range { LeadsIn leads.now }
     ensures count { IfOk result (λ v. length v.items ≡ length leads.now) }
-    ensures each { IfOk result (λ v. (q : ℕ) → q < length leads.now → place_at v.items q ≡ place_of leads.now q) }
+    ensures each { IfOk result (λ v. (q : ℕ) → q < length leads.now → place_at v.items q ≡ place_on_cycle leads.now q) }
 {
     let mut walks = vec![in alloc; None; leads.len()]?;
     let mut places = vec![in alloc; Place::Off; leads.len()]?;

@@ -3,7 +3,7 @@ ghost use Rattle.std.specs.Prelude.{◌≡◌, ◌↔◌, ℕ, ◌+◌, ◌^◌,
 ghost use Rattle.hk_fix.specs.Fix.{is_finished, waiting};
 ghost use Rattle.hk_fix.specs.Outcomes.{outcome_view};
 ghost use Rattle.hk_fix.specs.Report.{report_of, failed_of, cycles_of, blocked_of, lead_of, CanReport, FirstIn, IsEmptyReport, is_faulted};
-ghost use Rattle.hk_fix.specs.Walks.{LeadsIn, place_at, place_of};
+ghost use Rattle.hk_fix.specs.Walks.{LeadsIn, place_at, place_on_cycle};
 
 use crate::cycles::{Place, members, places};
 use crate::reported::Report;
@@ -105,7 +105,7 @@ fn cycles(
     requires few { length leads.now < 2 ^ 32 }
     requires range { LeadsIn leads.now }
     requires count { length places.now ≡ length leads.now }
-    requires each { (q : ℕ) → q < length leads.now → place_at places.now q ≡ place_of leads.now q }
+    requires each { (q : ℕ) → q < length leads.now → place_at places.now q ≡ place_on_cycle leads.now q }
     ensures { IfOk result (λ v. map (λ c. c.items) v.items ≡ cycles_of leads.now) }
 {
     let mut cycles = Vec::new(alloc);
@@ -126,7 +126,7 @@ fn blocked(
     requires few { length outcomes.now < 2 ^ 32 }
     requires leads { length leads.now ≡ length outcomes.now }
     requires count { length places.now ≡ length outcomes.now }
-    requires each { (q : ℕ) → q < length leads.now → place_at places.now q ≡ place_of leads.now q }
+    requires each { (q : ℕ) → q < length leads.now → place_at places.now q ≡ place_on_cycle leads.now q }
     ensures { IfOk result (λ v. map (λ b. (b.0, b.1.items)) v.items ≡ blocked_of leads.now (map outcome_view outcomes.now)) }
 {
     let mut blocked = Vec::new(alloc);

@@ -25,16 +25,16 @@ abbrev pub idents_text : List Ident → Bytes
 idents_text [] = []
 idents_text (id ∷ ids) = ident_text id ++ idents_text ids
 
-abbrev pub joined : List Bytes → Bytes
-joined [] = []
-joined (text ∷ texts) = text ++ joined texts
+abbrev pub texts_joined : List Bytes → Bytes
+texts_joined [] = []
+texts_joined (text ∷ texts) = text ++ texts_joined texts
 
 -- the text of a pattern, from the texts of the patterns in it
 abbrev pub text_by : Pattern-F Bytes → Bytes
 text_by (Pattern-F.Glob glob) = str (codes "glob") ++ str glob
 text_by (Pattern-F.Ids ids) = str (codes "ids") ++ (num (length ids) ++ idents_text ids)
-text_by (Pattern-F.And texts) = str (codes "and") ++ (num (length texts) ++ joined texts)
-text_by (Pattern-F.Or texts) = str (codes "or") ++ (num (length texts) ++ joined texts)
+text_by (Pattern-F.And texts) = str (codes "and") ++ (num (length texts) ++ texts_joined texts)
+text_by (Pattern-F.Or texts) = str (codes "or") ++ (num (length texts) ++ texts_joined texts)
 text_by (Pattern-F.Not text) = str (codes "not") ++ text
 text_by (Pattern-F.HasVersion version) = str (codes "version") ++ str version
 text_by Pattern-F.HasNoVersion = str (codes "noversion")

@@ -42,7 +42,7 @@ fn write_patterns(
     word: &[u8],
     patterns: &[Pattern],
 ) -> Result<(), NoMemory>
-    ensures { OnOk result (out.new.items ≡ out.old.items ++ (spec.str word.now ++ (spec.num (length patterns.now) ++ spec.joined (map spec.text_of patterns.now)))) }
+    ensures { OnOk result (out.new.items ≡ out.old.items ++ (spec.str word.now ++ (spec.num (length patterns.now) ++ spec.texts_joined (map spec.text_of patterns.now)))) }
 {
     write_str(alloc, out, word)?;
     write_num(alloc, out, patterns.len())?;
@@ -51,7 +51,7 @@ fn write_patterns(
 
 #[cycle(writing)]
 fn write_each(alloc: Global, out: &mut Vec<u8>, patterns: &[Pattern]) -> Result<(), NoMemory>
-    ensures { OnOk result (out.new.items ≡ out.old.items ++ spec.joined (map spec.text_of patterns.now)) }
+    ensures { OnOk result (out.new.items ≡ out.old.items ++ spec.texts_joined (map spec.text_of patterns.now)) }
 {
     for pattern in patterns {
         write_pattern(alloc, out, pattern)?;

@@ -10,9 +10,9 @@ use Rattle.hk_base.specs.Bytes.{Bytes}
 use Rattle.hk_html.specs.Kind.{is_tag_byte, first, after_run}
 use Rattle.hk_html.specs.Part.{Part, parts_of}
 use Rattle.hk_html.specs.Piece.{Piece, comment, other, first_piece, tag_by, piece_text, piece_with_root}
-use Rattle.hk_html.specs.Place.{place_of, place_of_word}
+use Rattle.hk_html.specs.Place.{first_place, place_of_word}
 use Rattle.hk_html.specs.Relative.{with_roots}
-use Rattle.hk_html.proofs.PlaceLemmas.{place_of-yes, place_of-no}
+use Rattle.hk_html.proofs.PlaceLemmas.{first_place-yes, first_place-no}
 use Rattle.hk_html.proofs.WholeLemmas.{pieces-cons}
 
 -- the bytes of the first text, up to the first that is no piece of its own
@@ -84,9 +84,9 @@ other_again x xs again begins letter same =
     let letter' : (x == 60 && is_ascii_alphabetic (first again)) ≡ false = ap (λ b. x == 60 && is_ascii_alphabetic b) (first_follows xs again same) ∙ letter in
     rw (begins', letter')
 
-pub place_of-found : (test : Bytes → Bool) (text : Bytes) → test text ≡ true → place_of test text ≡ 0
-place_of-found test [] e = refl
-place_of-found test (x ∷ xs) e = place_of-yes test x xs e
+pub first_place-found : (test : Bytes → Bool) (text : Bytes) → test text ≡ true → first_place test text ≡ 0
+first_place-found test [] e = refl
+first_place-found test (x ∷ xs) e = first_place-yes test x xs e
 
 pub starts_with-front : (text word more : Bytes) (count : ℕ) → length word ≤ count → count ≤ length text → starts_with nat_eq (take count text ++ more) word ≡ starts_with nat_eq text word
 starts_with-front text word more count enough fits =
@@ -110,15 +110,15 @@ place_stays word (y ∷ ys) more found =
     let test : Bytes → Bool = λ rest. starts_with nat_eq rest word in
     elim (starts_with nat_eq (y ∷ ys) word) as (λ b. starts_with nat_eq (y ∷ ys) word ≡ b → Stays word (y ∷ ys) more) [
       | true ↦ λ e.
-          let at = place_of-yes test y ys e in
+          let at = first_place-yes test y ys e in
           let size : place_of_word word (y ∷ ys) + length word ≡ length word = omega (arith, at) in
           let fits = starts_with-fits (y ∷ ys) word e in
           record {
             fits = omega (arith, at, fits);
-            place = rw size (place_of-found test (take (length word) (y ∷ ys) ++ more) (starts_with-front (y ∷ ys) word more (length word) (omega arith) fits ∙ e) ∙ sym at);
+            place = rw size (first_place-found test (take (length word) (y ∷ ys) ++ more) (starts_with-front (y ∷ ys) word more (length word) (omega arith) fits ∙ e) ∙ sym at);
           }
       | false ↦ λ e.
-          let at = place_of-no test y ys e in
+          let at = first_place-no test y ys e in
           let inner = place_stays word ys more (omega (arith, at, found)) in
           let count = place_of_word word ys + length word in
           let size : place_of_word word (y ∷ ys) + length word ≡ suc count = omega (arith, at) in
@@ -126,6 +126,6 @@ place_stays word (y ∷ ys) more found =
           let missed = starts_with-front (y ∷ ys) word more (suc count) (omega arith) fits ∙ e in
           record {
             fits = omega (arith, at, inner.fits);
-            place = rw size (place_of-no test y (take count ys ++ more) missed ∙ ap (λ n. 1 + n) inner.place ∙ sym at);
+            place = rw size (first_place-no test y (take count ys ++ more) missed ∙ ap (λ n. 1 + n) inner.place ∙ sym at);
           }
     ] refl

@@ -9,7 +9,7 @@ use Rattle.hk_html.specs.declared.scan.Scan.{Scan}
 use Rattle.hk_html.specs.Kind.{first, after_run, is_tag_byte}
 use Rattle.hk_html.specs.Part.{Part, parts_of, parts_text, part_with_root}
 use Rattle.hk_html.specs.Piece.{comment, tag, unfinished, other, first_piece, tag_by, raw_text, has_raw_text, ends_raw_text}
-use Rattle.hk_html.specs.Place.{place_of, place_of_word}
+use Rattle.hk_html.specs.Place.{first_place, place_of_word}
 use Rattle.hk_html.specs.Scan.{Reads, ReadsParts, ReadsTag, ReadsPiece, ahead, piece_ahead, tag_ahead, link_values, links_with_root}
 use Rattle.hk_html.proofs.SliceLemmas.{slice_range-add}
 use Rattle.hk_html.proofs.ReadsLemmas.{Reads-ahead, Reads-same, Reads-trans, kept_more}
@@ -44,8 +44,8 @@ take_length_take k text = rw (length-take k text) (take_min k text)
 
 pub raw_text-front : (name text : Bytes) → take (length (raw_text name text)) text ≡ raw_text name text
 raw_text-front name text =
-    elim (has_raw_text name) as (λ b. let raw = cond b (take (place_of (ends_raw_text name) text) text) [] in take (length raw) text ≡ raw) [
-      | true ↦ take_length_take (place_of (ends_raw_text name) text) text
+    elim (has_raw_text name) as (λ b. let raw = cond b (take (first_place (ends_raw_text name) text) text) [] in take (length raw) text ≡ raw) [
+      | true ↦ take_length_take (first_place (ends_raw_text name) text) text
       | false ↦ refl
     ]
 

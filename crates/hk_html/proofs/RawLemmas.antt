@@ -10,11 +10,11 @@ use Rattle.std.proofs.Math.Seq.{take-append_seam}
 use Rattle.hk_base.specs.Bytes.{Bytes}
 use Rattle.hk_html.specs.Kind.{is_tag_byte}
 use Rattle.hk_html.specs.Piece.{raw_text, has_raw_text, ends_raw_text}
-use Rattle.hk_html.specs.Place.{place_of}
+use Rattle.hk_html.specs.Place.{first_place}
 use Rattle.hk_html.specs.Relative.{with_roots}
 use Rattle.hk_html.proofs.AgainLemmas.{run-yes, run-no}
-use Rattle.hk_html.proofs.PlaceLemmas.{place_of-yes, place_of-no}
-use Rattle.hk_html.proofs.FollowLemmas.{Follows, follows, plain_piece, place_of-found}
+use Rattle.hk_html.proofs.PlaceLemmas.{first_place-yes, first_place-no}
+use Rattle.hk_html.proofs.FollowLemmas.{Follows, follows, plain_piece, first_place-found}
 
 -- a run without `<` is the same run in a text that follows
 run_follows : (p : ℕ → Bool) (text again : Bytes) → Follows text again → list_all (λ b. not (b == 60)) (take_while p text) ≡ true → take_while p again ≡ take_while p text
@@ -86,41 +86,41 @@ ends_same name x [] rest again =
     elim (nat_eq 60 x) as (λ b. ((b && false) && str_eq_ignore_ascii_case (take_while is_tag_byte (47 ∷ again)) name) ≡ ((b && false) && str_eq_ignore_ascii_case (take_while is_tag_byte (47 ∷ rest)) name)) [ true ↦ refl | false ↦ refl ]
 ends_same name x (y ∷ front) rest again = ap (λ (run : Bytes). (nat_eq 60 x && (nat_eq 47 y && true)) && str_eq_ignore_ascii_case run name) (run_same front rest again)
 
-place_same : (name front rest again : Bytes) → ends_raw_text name (60 ∷ (47 ∷ again)) ≡ true → place_of (ends_raw_text name) (front ++ (60 ∷ (47 ∷ rest))) ≡ length front
-    → place_of (ends_raw_text name) (front ++ (60 ∷ (47 ∷ again))) ≡ length front
-place_same name [] rest again ends at = place_of-found (ends_raw_text name) (60 ∷ (47 ∷ again)) ends
+place_same : (name front rest again : Bytes) → ends_raw_text name (60 ∷ (47 ∷ again)) ≡ true → first_place (ends_raw_text name) (front ++ (60 ∷ (47 ∷ rest))) ≡ length front
+    → first_place (ends_raw_text name) (front ++ (60 ∷ (47 ∷ again))) ≡ length front
+place_same name [] rest again ends at = first_place-found (ends_raw_text name) (60 ∷ (47 ∷ again)) ends
 place_same name (x ∷ xs) rest again ends at =
     let test = ends_raw_text name in
-    elim (test (x ∷ (xs ++ (60 ∷ (47 ∷ rest))))) as (λ b. test (x ∷ (xs ++ (60 ∷ (47 ∷ rest)))) ≡ b → place_of test (x ∷ (xs ++ (60 ∷ (47 ∷ again)))) ≡ suc (length xs)) [
-      | true ↦ λ e. absurd (omega (arith, at, place_of-yes test x (xs ++ (60 ∷ (47 ∷ rest))) e))
+    elim (test (x ∷ (xs ++ (60 ∷ (47 ∷ rest))))) as (λ b. test (x ∷ (xs ++ (60 ∷ (47 ∷ rest)))) ≡ b → first_place test (x ∷ (xs ++ (60 ∷ (47 ∷ again)))) ≡ suc (length xs)) [
+      | true ↦ λ e. absurd (omega (arith, at, first_place-yes test x (xs ++ (60 ∷ (47 ∷ rest))) e))
       | false ↦ λ e.
-          let inner : place_of test (xs ++ (60 ∷ (47 ∷ rest))) ≡ length xs = omega (arith, at, place_of-no test x (xs ++ (60 ∷ (47 ∷ rest))) e) in
-          let step = place_of-no test x (xs ++ (60 ∷ (47 ∷ again))) (ends_same name x xs rest again ∙ e) in
+          let inner : first_place test (xs ++ (60 ∷ (47 ∷ rest))) ≡ length xs = omega (arith, at, first_place-no test x (xs ++ (60 ∷ (47 ∷ rest))) e) in
+          let step = first_place-no test x (xs ++ (60 ∷ (47 ∷ again))) (ends_same name x xs rest again ∙ e) in
           omega (arith, step, place_same name xs rest again ends inner)
     ] refl
 
-place_found : (test : Bytes → Bool) (text : Bytes) → place_of test text < length text → test (drop (place_of test text) text) ≡ true
+place_found : (test : Bytes → Bool) (text : Bytes) → first_place test text < length text → test (drop (first_place test text) text) ≡ true
 place_found test [] found = absurd (omega arith)
 place_found test (x ∷ xs) found =
-    elim (test (x ∷ xs)) as (λ b. test (x ∷ xs) ≡ b → test (drop (place_of test (x ∷ xs)) (x ∷ xs)) ≡ true) [
-      | true ↦ λ e. rw (place_of-yes test x xs e) e
+    elim (test (x ∷ xs)) as (λ b. test (x ∷ xs) ≡ b → test (drop (first_place test (x ∷ xs)) (x ∷ xs)) ≡ true) [
+      | true ↦ λ e. rw (first_place-yes test x xs e) e
       | false ↦ λ e.
-          let at = place_of-no test x xs e in
-          let next : place_of test (x ∷ xs) ≡ suc (place_of test xs) = omega (arith, at) in
+          let at = first_place-no test x xs e in
+          let next : first_place test (x ∷ xs) ≡ suc (first_place test xs) = omega (arith, at) in
           rw next (place_found test xs (omega (arith, at, found)))
     ] refl
 
 raw_text-none : (name text : Bytes) → has_raw_text name ≡ false → raw_text name text ≡ []
 raw_text-none name text e = rw e
 
-raw_text-some : (name text : Bytes) → has_raw_text name ≡ true → raw_text name text ≡ take (place_of (ends_raw_text name) text) text
+raw_text-some : (name text : Bytes) → has_raw_text name ≡ true → raw_text name text ≡ take (first_place (ends_raw_text name) text) text
 raw_text-some name text e = rw e
 
-raw_again-found : (root name text : Bytes) → has_raw_text name ≡ true → place_of (ends_raw_text name) text < length text
-    → let raw = take (place_of (ends_raw_text name) text) text in raw_text name (raw ++ with_roots root (drop (length raw) text)) ≡ raw
+raw_again-found : (root name text : Bytes) → has_raw_text name ≡ true → first_place (ends_raw_text name) text < length text
+    → let raw = take (first_place (ends_raw_text name) text) text in raw_text name (raw ++ with_roots root (drop (length raw) text)) ≡ raw
 raw_again-found root name text has found =
     let test = ends_raw_text name in
-    let place = place_of test text in
+    let place = first_place test text in
     let raw = take place text in
     let size : length raw ≡ place = length-take-le place text (omega arith) in
     let left = drop (length raw) text in
@@ -132,22 +132,22 @@ raw_again-found root name text has found =
     let run = run_follows is_tag_byte close.rest again.more again.follows (name_plain name (take_while is_tag_byte close.rest) has same_name) in
     let ends_again : test (60 ∷ (47 ∷ again.more)) ≡ true = ap (λ (r : Bytes). str_eq_ignore_ascii_case r name) run ∙ same_name in
     let whole : raw ++ (60 ∷ (47 ∷ close.rest)) ≡ text = ap (λ (t : Bytes). raw ++ t) (sym close.same) ∙ ap (λ n. raw ++ drop n text) size ∙ take-append-drop place text in
-    let at : place_of test (raw ++ (60 ∷ (47 ∷ close.rest))) ≡ length raw = ap (place_of test) whole ∙ sym size in
-    let at_again : place_of test (raw ++ with_roots root left) ≡ length raw = ap (λ (t : Bytes). place_of test (raw ++ t)) again.same ∙ place_same name raw close.rest again.more ends_again at in
+    let at : first_place test (raw ++ (60 ∷ (47 ∷ close.rest))) ≡ length raw = ap (first_place test) whole ∙ sym size in
+    let at_again : first_place test (raw ++ with_roots root left) ≡ length raw = ap (λ (t : Bytes). first_place test (raw ++ t)) again.same ∙ place_same name raw close.rest again.more ends_again at in
     raw_text-some name (raw ++ with_roots root left) has ∙ ap (λ n. take n (raw ++ with_roots root left)) at_again ∙ take-append_seam raw (with_roots root left)
 
-raw_again-past : (root name text : Bytes) → has_raw_text name ≡ true → length text ≤ place_of (ends_raw_text name) text
-    → let raw = take (place_of (ends_raw_text name) text) text in raw_text name (raw ++ with_roots root (drop (length raw) text)) ≡ raw
+raw_again-past : (root name text : Bytes) → has_raw_text name ≡ true → length text ≤ first_place (ends_raw_text name) text
+    → let raw = take (first_place (ends_raw_text name) text) text in raw_text name (raw ++ with_roots root (drop (length raw) text)) ≡ raw
 raw_again-past root name text has past =
-    let raw = take (place_of (ends_raw_text name) text) text in
-    let whole : raw ≡ text = take_all (place_of (ends_raw_text name) text) text past in
+    let raw = take (first_place (ends_raw_text name) text) text in
+    let whole : raw ≡ text = take_all (first_place (ends_raw_text name) text) text past in
     let none : drop (length raw) text ≡ [] = drop_all (length raw) text (omega (arith, ap length whole)) in
     ap (λ (t : Bytes). raw_text name (raw ++ with_roots root t)) none ∙ ap (raw_text name) (append-nil raw ∙ whole) ∙ raw_text-some name text has
 
 raw_again-some : (root name text : Bytes) → has_raw_text name ≡ true
-    → let raw = take (place_of (ends_raw_text name) text) text in raw_text name (raw ++ with_roots root (drop (length raw) text)) ≡ raw
+    → let raw = take (first_place (ends_raw_text name) text) text in raw_text name (raw ++ with_roots root (drop (length raw) text)) ≡ raw
 raw_again-some root name text has =
-    elim (cases_lt (place_of (ends_raw_text name) text) (length text)) [
+    elim (cases_lt (first_place (ends_raw_text name) text) (length text)) [
       | inl found ↦ raw_again-found root name text has found
       | inr past ↦ raw_again-past root name text has past
     ]

@@ -6,7 +6,7 @@ use Rattle.std.specs.Str.{str_eq_ignore_ascii_case}
 use Rattle.hk_base.specs.Bytes.{Bytes}
 use Rattle.hk_html.specs.Kind.{is_tag_byte, first, after_run}
 use Rattle.hk_html.specs.Part.{Part, parts_of, parts_text, part_links, part_with_root}
-use Rattle.hk_html.specs.Place.{place_of, place_of_word}
+use Rattle.hk_html.specs.Place.{first_place, place_of_word}
 
 -- a comment; a finished tag: `<` and its name, its parts up to the `>`, and the raw text after that; the rest of a text
 -- in which a tag has no end; any other byte
@@ -33,7 +33,7 @@ ends_raw_text name text =
 
 -- the raw text with which what comes after a tag begins
 abbrev pub raw_text : Bytes → Bytes → Bytes
-raw_text name text = if has_raw_text name then take (place_of (ends_raw_text name) text) text else []
+raw_text name text = if has_raw_text name then take (first_place (ends_raw_text name) text) text else []
 
 -- the piece that begins with `<` and the name of a tag, by the parts that come after the name
 abbrev pub tag_by : ℕ → Bytes → Option (List Part) → Piece

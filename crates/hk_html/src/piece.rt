@@ -40,7 +40,7 @@ fn has_raw_text(name: &[u8]) -> bool
 
 /// Where the raw text ends.
 fn raw_end(text: &[u8], name: &[u8]) -> usize
-    ensures value { result ≡ place.place_of (spec.ends_raw_text name.now) text.now }
+    ensures value { result ≡ place.first_place (spec.ends_raw_text name.now) text.now }
     ensures bound { result ≤ length text.now }
 {
     for at in 0..text.len() {

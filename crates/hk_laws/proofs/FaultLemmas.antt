@@ -8,7 +8,7 @@ use Rattle.hk_template.specs.Tree.{Node, Nodes, no_nodes, node, nodes_tokens, tr
 use Rattle.hk_template.specs.Cut.{Cuts, cut}
 use Rattle.hk_template.specs.Stop.{IsStuck, IsCut}
 use Rattle.hk_template.specs.Template.{IsTemplate}
-use Rattle.hk_template.specs.Fault.{Open, in_if, in_else, in_for, in_sep, place_of, at_end, opened_by, fault_on, fault_from, first_fault}
+use Rattle.hk_template.specs.Fault.{Open, in_if, in_else, in_for, in_sep, place_of_open, at_end, opened_by, fault_on, fault_from, first_fault}
 use Rattle.hk_template.proofs.Bools.{first_true}
 use Rattle.hk_template.proofs.Cutting.{cuts_all, spelled_cut}
 use Rattle.hk_template.proofs.Grammar.{tree_or_fault}
@@ -250,7 +250,7 @@ end_fault bytes fault ts os false rest same finished stuck no_tree ran proper ap
     (record { front = text_of ts; rest = rest; after = subst (λ (t : Bytes). IsAfter t (length (text_of ts)) (text_of ts) rest) (sym same) at; why = inl (stuck refl) })
 end_fault bytes fault ts [] true rest same finished stuck no_tree ran proper apart e = let no_ : ⊥ = cc in absurd no_
 end_fault bytes fault ts (o ∷ os) true rest same finished stuck no_tree ran proper apart e =
-    let is : Unclosed (place_of o) ≡ fault = some_is _ _ e in
+    let is : Unclosed (place_of_open o) ≡ fault = some_is _ _ e in
     let level = ran.levels in
     let first = tag level.left (first_word level.sort level.key) level.right in
     let behind = level.behind in
@@ -271,7 +271,7 @@ end_fault bytes fault ts (o ∷ os) true rest same finished stuck no_tree ran pr
       no_tree = no_tree;
       front = text_of level.front;
       rest = text_of (first ∷ behind);
-      after = subst (λ (t : Bytes). IsAfter t (place_of o) (text_of level.front) (text_of (first ∷ behind))) (sym cut_there)
+      after = subst (λ (t : Bytes). IsAfter t (place_of_open o) (text_of level.front) (text_of (first ∷ behind))) (sym cut_there)
           (subst (λ (p : ℕ). IsAfter (text_of level.front ++ text_of (first ∷ behind)) p (text_of level.front) (text_of (first ∷ behind))) (sym level.at) at);
       token = first;
       there = record { more = text_of behind; proper = proper_first level.sort level.left level.key level.right behind (proper_back level.front (first ∷ behind) (ap all_proper (sym level.same) ∙ proper)); spelled = refl };

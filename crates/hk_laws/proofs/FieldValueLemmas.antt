@@ -15,7 +15,8 @@ use Rattle.hk_forms.specs.PatternForm.{pattern_of}
 use Rattle.hk_meta.specs.DatePattern.{pattern_ok}
 use Rattle.hk_pattern.specs.declared.pattern.Pattern.{Pattern}
 use Rattle.hk_rules_file.specs.ContextNames.{keys_in}
-use Rattle.hk_steps.specs.StepForm.{final_name, context_by, snapshot_by}
+use Rattle.hk_steps.specs.StepForm.{context_by, snapshot_by}
+use Rattle.hk_chain.specs.Names.{final_name}
 use Rattle.hk_steps.specs.FieldForm.{key_by, date_pattern_by, word_field, const_by, date_by, flag_by, teaser_by, paired, keyed_by, is_list_key, snapshot_or_final, order_named, order_or, count_of, limit_or_none, several as several_by, list_in, list_by, list_of, field_of}
 use Rattle.hk_steps.specs.declared.draft.DraftField.{DraftField}
 use Rattle.hk_steps.specs.declared.draft.DraftField.TheVariants.{Default, Whole, Several}

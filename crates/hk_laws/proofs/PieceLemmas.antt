@@ -18,7 +18,7 @@ use Rattle.hk_laws.specs.Tags.{is_tag_name_byte, FitsParts}
 use Rattle.hk_laws.specs.Cuttings.{IsClosedComment, IsOpenComment, IsTagName, IsTag, IsUnfinished, IsOther, FitsPiece}
 use Rattle.hk_laws.proofs.KindLemmas.{tag_same, all_same, stops, longest}
 use Rattle.hk_laws.proofs.WordLemmas.{tells_word}
-use Rattle.hk_laws.proofs.FirstLemmas.{place_first, first_place}
+use Rattle.hk_laws.proofs.FirstLemmas.{place_first, place_is_first}
 use Rattle.hk_laws.proofs.PartLemmas.{parts_read, read_parts}
 use Rattle.hk_laws.proofs.RawLemmas.{read_raw, raw_read}
 
@@ -86,7 +86,7 @@ read_comment x xs begins =
     let x_is : 60 ≡ x = let e = begins.spelled in cc in
     let xs_is : 33 ∷ (45 ∷ (45 ∷ ys)) ≡ xs = let e = begins.spelled in cc in
     subst (λ (t : ℕ × Bytes). Reads (t.0 ∷ t.1) (first_piece t.0 t.1)) (λ i. (x_is i, xs_is i))
-    (comment_by ys (take place ys) (drop place ys) (sym (take-append-drop place ys)) (first_place (λ t. starts_with nat_eq t (codes "-->")) (BeginsWith (codes "-->")) (tells_word (codes "-->")) ys))
+    (comment_by ys (take place ys) (drop place ys) (sym (take-append-drop place ys)) (place_is_first (λ t. starts_with nat_eq t (codes "-->")) (BeginsWith (codes "-->")) (tells_word (codes "-->")) ys))
 
 letter_is_tag_byte : (l : ℕ) → is_ascii_alphabetic l ≡ true → is_tag_byte l ≡ true
 letter_is_tag_byte l letter = grind (arith, nat_tests)

@@ -9,14 +9,14 @@ use Rattle.std.proofs.Math.Seq.{take-append_seam}
 use Rattle.hk_base.specs.Bytes.{Bytes}
 use Rattle.hk_html.specs.Kind.{is_tag_byte, after_run}
 use Rattle.hk_html.specs.Piece.{raw_text, has_raw_text, ends_raw_text}
-use Rattle.hk_html.specs.Place.{place_of}
+use Rattle.hk_html.specs.Place.{first_place}
 use Rattle.hk_html.proofs.FrontLemmas.{run_front}
 use Rattle.hk_html.proofs.AgainLemmas.{run_again, list_all-run, Stops-after}
 use Rattle.hk_laws.specs.Tags.{is_tag_name_byte}
 use Rattle.hk_laws.specs.Cuttings.{IsEndTag, HasRawText, IsRawText}
 use Rattle.hk_laws.proofs.LetterLemmas.{same_letters}
 use Rattle.hk_laws.proofs.KindLemmas.{tag_same, all_same, stops, longest}
-use Rattle.hk_laws.proofs.FirstLemmas.{place_first, first_place}
+use Rattle.hk_laws.proofs.FirstLemmas.{place_first, place_is_first}
 
 pub record Closes (text : Bytes) : Type 0 where
   pub rest : Bytes
@@ -63,7 +63,7 @@ tells_raw name =
     Decides-or (str_eq_ignore_ascii_case name (codes "script")) (str_eq_ignore_ascii_case name (codes "style"))
     (same_letters name (codes "script")) (same_letters name (codes "style"))
 
-raw_some : (name text : Bytes) → has_raw_text name ≡ true → raw_text name text ≡ take (place_of (ends_raw_text name) text) text
+raw_some : (name text : Bytes) → has_raw_text name ≡ true → raw_text name text ≡ take (first_place (ends_raw_text name) text) text
 raw_some name text e = rw e
 
 raw_none : (name text : Bytes) → has_raw_text name ≡ false → raw_text name text ≡ []
@@ -80,13 +80,13 @@ pub read_raw : (name text : Bytes) → ReadRaw name text
 read_raw name text =
     elim (has_raw_text name) as (λ b. has_raw_text name ≡ b → ReadRaw name text) [
       | true ↦ λ has.
-          let place = place_of (ends_raw_text name) text in
+          let place = first_place (ends_raw_text name) text in
           let raw_is = raw_some name text has in
           record {
             rest = drop place text;
             same = sym (take-append-drop place text) ∙ ap (λ (t : Bytes). t ++ drop place text) (sym raw_is);
             fits = subst (λ (raw : Bytes). IsRawText name raw (drop place text)) (sym raw_is)
-                (record { some = λ _. first_place (ends_raw_text name) (IsEndTag name) (tells_end name) text; none = λ none. absurd (none ((tells_raw name).0 has)) });
+                (record { some = λ _. place_is_first (ends_raw_text name) (IsEndTag name) (tells_end name) text; none = λ none. absurd (none ((tells_raw name).0 has)) });
           }
       | false ↦ λ no_raw.
           let raw_is = raw_none name text no_raw in

@@ -4,7 +4,7 @@ use Rattle.hk_base.specs.Bytes.{Bytes}
 use Rattle.hk_template.specs.declared.fault.TemplateFault.{TemplateFault}
 use Rattle.hk_template.specs.declared.fault.TemplateFault.TheVariants.{BadForm, Unclosed, TooDeep}
 use Rattle.hk_template.specs.Token.{Word, key, if_, else_, endif, for_, sep, endfor, partial, Token, text, dollar, tag, token_text}
-use Rattle.hk_template.specs.Fault.{Open, in_if, in_else, in_for, in_sep, place_of, opened, opened_by, fault_on, fault_from}
+use Rattle.hk_template.specs.Fault.{Open, in_if, in_else, in_for, in_sep, place_of_open, opened, opened_by, fault_on, fault_from}
 use Rattle.hk_laws.proofs.WalkLemmas.{Kind, if_kind, else_kind, for_kind, sep_kind, step, on, walk, walk-on, one_words, token_words, token_words-append}
 use Rattle.hk_laws.proofs.HeldLemmas.{let_go, walk_above, walk_free, Sort, if_sort, for_sort, first_word, last_word, held_kind}
 use Rattle.hk_laws.proofs.TokenLemmas.{text_of, text_of-append}
@@ -82,7 +82,7 @@ pub record Level (Outer : List Token → Type 0) (o : Open) (ts : List Token) : 
   pub right : Bool
   pub behind : List Token
   pub same : ts ≡ front ++ (tag left (first_word sort key) right ∷ behind)
-  pub at : place_of o ≡ length (text_of front)
+  pub at : place_of_open o ≡ length (text_of front)
   pub outer : Outer front
   pub inside : walk (token_words behind) (held_kind sort ∷ []) ≡ Some (hold (kind_of o) ∷ [])
   pub closes : step (last_word sort) (kind_of o ∷ []) ≡ Some []
@@ -99,7 +99,7 @@ snoc_same ts front behind first t e = ap (λ all. all ++ t ∷ []) e ∙ append_
 
 -- one more token inside the innermost form
 level_more : (Outer : List Token → Type 0) (o next : Open) (ts : List Token) (t : Token) → Level Outer o ts → walk (one_words t) (hold (kind_of o) ∷ []) ≡ Some (hold (kind_of next) ∷ [])
-    → place_of next ≡ place_of o → ((s : Sort) → step (last_word s) (kind_of o ∷ []) ≡ Some [] → step (last_word s) (kind_of next ∷ []) ≡ Some []) → Level Outer next (ts ++ t ∷ [])
+    → place_of_open next ≡ place_of_open o → ((s : Sort) → step (last_word s) (kind_of o ∷ []) ≡ Some [] → step (last_word s) (kind_of next ∷ []) ≡ Some []) → Level Outer next (ts ++ t ∷ [])
 level_more Outer o next ts t level goes place closes = record {
   front = level.front;
   left = level.left;
@@ -118,7 +118,7 @@ levels_more : (os : List Open) (ts : List Token) (t : Token) → ((k : Kind) →
 levels_more [] ts t goes levels = tt
 levels_more (o ∷ os) ts t goes level = level_more (Levels os) o o ts t level (goes (hold (kind_of o))) refl (λ s e. e)
 
-level_new : (os : List Open) (o : Open) (ts : List Token) (left : Bool) (s : Sort) (k : Bytes) (right : Bool) → Levels os ts → place_of o ≡ length (text_of ts) → hold (kind_of o) ≡ held_kind s → step (last_word s) (kind_of o ∷ []) ≡ Some []
+level_new : (os : List Open) (o : Open) (ts : List Token) (left : Bool) (s : Sort) (k : Bytes) (right : Bool) → Levels os ts → place_of_open o ≡ length (text_of ts) → hold (kind_of o) ≡ held_kind s → step (last_word s) (kind_of o ∷ []) ≡ Some []
     → Level (Levels os) o (ts ++ tag left (first_word s k) right ∷ [])
 level_new os o ts left s k right levels place held closes = record {
   front = ts;

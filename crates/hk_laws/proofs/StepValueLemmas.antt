@@ -9,7 +9,8 @@ use Rattle.hk_forms.specs.IdForm.{id_of}
 use Rattle.hk_forms.specs.Members.{both}
 use Rattle.hk_forms.specs.Names.{is_context_name, is_snapshot_name}
 use Rattle.hk_forms.specs.PatternForm.{pattern_of}
-use Rattle.hk_steps.specs.StepForm.{final_name, default_name, context_by, snapshot_by, word_step, load_by, apply_by, keyed, paired, step_of}
+use Rattle.hk_steps.specs.StepForm.{default_name, context_by, snapshot_by, word_step, load_by, apply_by, keyed, paired, step_of}
+use Rattle.hk_chain.specs.Names.{final_name}
 use Rattle.hk_steps.specs.declared.draft.DraftStep.{DraftStep}
 use Rattle.hk_steps.specs.declared.draft.DraftStep.TheVariants.{Ready, Concat, Apply, SelfApply}
 use Rattle.hk_laws.specs.Values.{Reads, only_at, HasTwo, in_order, turned}

@@ -2,7 +2,7 @@
 use Rattle.std.proofs.Common.{◌≡◌, Bool, true, false, List, [], ◌∷◌, ◌++◌, map, refl, ap, sym, ◌∙◌, append_assoc, append-nil, Option, Some, None}
 use Rattle.hk_base.specs.Bytes.{Bytes}
 use Rattle.hk_template.specs.Token.{Word, key, if_, else_, endif, for_, sep, endfor, partial, Token, text, dollar, tag}
-use Rattle.hk_template.specs.Tree.{Node, Nodes, no_nodes, node, joined, text_node, dollar_node, key_node, if_node, if_else_node, for_node, for_sep_node, partial_node, node_tokens, nodes_tokens, Plain, plain_text, plain_dollar, plain_tag, text_if_any, trimmed, trim_end_if, trim_start_if, dashed}
+use Rattle.hk_template.specs.Tree.{Node, Nodes, no_nodes, node, joined_nodes, text_node, dollar_node, key_node, if_node, if_else_node, for_node, for_sep_node, partial_node, node_tokens, nodes_tokens, Plain, plain_text, plain_dollar, plain_tag, text_if_any, trimmed, trim_end_if, trim_start_if, dashed}
 use Rattle.hk_template.specs.Growing.{Head, Frame, if_frame, else_frame, for_frame, sep_frame, head_of}
 use Rattle.hk_template.proofs.Nodes.{nodes_tokens-joined}
 
@@ -159,7 +159,7 @@ around (f ∷ fs) = around fs ++ (nodes_tokens (head_of f).outer ++ frame_tokens
 abbrev so_far : Nodes → List Frame → List Plain
 so_far ns fs = around fs ++ nodes_tokens ns
 
-pushed : (n : Node) (ns : Nodes) (fs : List Frame) (ps : List Plain) → so_far ns fs ++ (node_tokens n ++ ps) ≡ so_far (joined ns (node n no_nodes)) fs ++ ps
+pushed : (n : Node) (ns : Nodes) (fs : List Frame) (ps : List Plain) → so_far ns fs ++ (node_tokens n ++ ps) ≡ so_far (joined_nodes ns (node n no_nodes)) fs ++ ps
 pushed n ns fs ps = simp (nodes_tokens-joined, append_assoc, append-nil)
 
 abbrev first_head : Bytes → Nodes → Head
@@ -175,10 +175,10 @@ closes_none ks e = let no_ : ⊥ = cc in absurd no_
 build : (ps : List Plain) (ns : Nodes) (fs : List Frame) → walk (plain_words ps) (map kind_of fs) ≡ Some [] → Built (so_far ns fs ++ ps)
 build [] ns [] e = record { tree = ns; same = append-nil (nodes_tokens ns) }
 build [] ns (f ∷ fs) e = let no_ : ⊥ = cc in absurd no_
-build (plain_text bytes ∷ ps) ns fs e = rebuilt _ _ (pushed (text_node bytes) ns fs ps) (build ps (joined ns (node (text_node bytes) no_nodes)) fs e)
-build (plain_dollar ∷ ps) ns fs e = rebuilt _ _ (pushed dollar_node ns fs ps) (build ps (joined ns (node dollar_node no_nodes)) fs e)
-build (plain_tag (key k) ∷ ps) ns fs e = rebuilt _ _ (pushed (key_node k) ns fs ps) (build ps (joined ns (node (key_node k) no_nodes)) fs e)
-build (plain_tag (partial path) ∷ ps) ns fs e = rebuilt _ _ (pushed (partial_node path) ns fs ps) (build ps (joined ns (node (partial_node path) no_nodes)) fs e)
+build (plain_text bytes ∷ ps) ns fs e = rebuilt _ _ (pushed (text_node bytes) ns fs ps) (build ps (joined_nodes ns (node (text_node bytes) no_nodes)) fs e)
+build (plain_dollar ∷ ps) ns fs e = rebuilt _ _ (pushed dollar_node ns fs ps) (build ps (joined_nodes ns (node dollar_node no_nodes)) fs e)
+build (plain_tag (key k) ∷ ps) ns fs e = rebuilt _ _ (pushed (key_node k) ns fs ps) (build ps (joined_nodes ns (node (key_node k) no_nodes)) fs e)
+build (plain_tag (partial path) ∷ ps) ns fs e = rebuilt _ _ (pushed (partial_node path) ns fs ps) (build ps (joined_nodes ns (node (partial_node path) no_nodes)) fs e)
 build (plain_tag (if_ k) ∷ ps) ns fs e = rebuilt _ _ (simp (append_assoc, append-nil)) (build ps no_nodes (if_frame (first_head k ns) ∷ fs) e)
 build (plain_tag (for_ k) ∷ ps) ns fs e = rebuilt _ _ (simp (append_assoc, append-nil)) (build ps no_nodes (for_frame (first_head k ns) ∷ fs) e)
 build (plain_tag else_ ∷ ps) ns [] e = closes_none [] e
@@ -192,15 +192,15 @@ build (plain_tag sep ∷ ps) ns (else_frame head first ∷ fs) e = closes_none [
 build (plain_tag sep ∷ ps) ns (for_frame head ∷ fs) e = rebuilt _ _ (simp (append_assoc, append-nil)) (build ps no_nodes (sep_frame head ns ∷ fs) e)
 build (plain_tag sep ∷ ps) ns (sep_frame head first ∷ fs) e = closes_none [] e
 build (plain_tag endif ∷ ps) ns [] e = closes_none [] e
-build (plain_tag endif ∷ ps) ns (if_frame head ∷ fs) e = rebuilt _ _ (simp (nodes_tokens-joined, append_assoc, append-nil)) (build ps (joined head.outer (node (if_node head.key ns) no_nodes)) fs e)
-build (plain_tag endif ∷ ps) ns (else_frame head first ∷ fs) e = rebuilt _ _ (simp (nodes_tokens-joined, append_assoc, append-nil)) (build ps (joined head.outer (node (if_else_node head.key first ns) no_nodes)) fs e)
+build (plain_tag endif ∷ ps) ns (if_frame head ∷ fs) e = rebuilt _ _ (simp (nodes_tokens-joined, append_assoc, append-nil)) (build ps (joined_nodes head.outer (node (if_node head.key ns) no_nodes)) fs e)
+build (plain_tag endif ∷ ps) ns (else_frame head first ∷ fs) e = rebuilt _ _ (simp (nodes_tokens-joined, append_assoc, append-nil)) (build ps (joined_nodes head.outer (node (if_else_node head.key first ns) no_nodes)) fs e)
 build (plain_tag endif ∷ ps) ns (for_frame head ∷ fs) e = closes_none [] e
 build (plain_tag endif ∷ ps) ns (sep_frame head first ∷ fs) e = closes_none [] e
 build (plain_tag endfor ∷ ps) ns [] e = closes_none [] e
 build (plain_tag endfor ∷ ps) ns (if_frame head ∷ fs) e = closes_none [] e
 build (plain_tag endfor ∷ ps) ns (else_frame head first ∷ fs) e = closes_none [] e
-build (plain_tag endfor ∷ ps) ns (for_frame head ∷ fs) e = rebuilt _ _ (simp (nodes_tokens-joined, append_assoc, append-nil)) (build ps (joined head.outer (node (for_node head.key ns) no_nodes)) fs e)
-build (plain_tag endfor ∷ ps) ns (sep_frame head first ∷ fs) e = rebuilt _ _ (simp (nodes_tokens-joined, append_assoc, append-nil)) (build ps (joined head.outer (node (for_sep_node head.key first ns) no_nodes)) fs e)
+build (plain_tag endfor ∷ ps) ns (for_frame head ∷ fs) e = rebuilt _ _ (simp (nodes_tokens-joined, append_assoc, append-nil)) (build ps (joined_nodes head.outer (node (for_node head.key ns) no_nodes)) fs e)
+build (plain_tag endfor ∷ ps) ns (sep_frame head first ∷ fs) e = rebuilt _ _ (simp (nodes_tokens-joined, append_assoc, append-nil)) (build ps (joined_nodes head.outer (node (for_sep_node head.key first ns) no_nodes)) fs e)
 
 -- tokens whose words walk from nothing to nothing have a tree
 pub built : (ts : List Token) → walk (token_words ts) [] ≡ Some [] → Built (trimmed false ts)

@@ -4,7 +4,7 @@ use Rattle.std.specs.Cmp.Lexicographic.{pointwise}
 use Rattle.std.specs.Map.{lookup}
 use Rattle.indexmap.specs.IndexMap.{insert_entry}
 use Rattle.hk_base.specs.Bytes.{Bytes}
-use Rattle.hk_meta.specs.Metadata.{Pair, Pairs, is_key, value_of, put, add_absent}
+use Rattle.hk_meta.specs.Metadata.{Pair, Pairs, same_name, value_of, put, add_absent}
 
 module _ {K V : Type 0} (key_bytes : K → Bytes) (value_bytes : V → Bytes) where
   abbrev pub pair_of : K × V → Pair
@@ -31,7 +31,7 @@ module _ {K V : Type 0} (key_bytes : K → Bytes) (value_bytes : V → Bytes) wh
 -- a put of a key that isn't there goes last
 pub put-absent : (key value : Bytes) (ps : Pairs) → is_some (value_of key ps) ≡ false → put key value ps ≡ ps ++ ((key, value) ∷ [])
 put-absent key value [] absent = refl
-put-absent key value (p ∷ ps) absent = by (is_key key p.0) (put-absent key value ps) absent
+put-absent key value (p ∷ ps) absent = by (same_name key p.0) (put-absent key value ps) absent
   where
     by : (b : Bool) → (is_some (value_of key ps) ≡ false → put key value ps ≡ ps ++ ((key, value) ∷ [])) → is_some (cond b (Some p.1) (value_of key ps)) ≡ false → cond b ((p.0, value) ∷ ps) (p ∷ put key value ps) ≡ p ∷ (ps ++ ((key, value) ∷ []))
     by true rest absent = cc

@@ -6,7 +6,7 @@ use Rattle.hk_base.specs.Bytes.{Bytes}
 use Rattle.hk_meta.specs.Line.{Line, ignored, member, key_line, refused, line_of}
 use Rattle.hk_meta.specs.Lines.{all_lines, line_text}
 use Rattle.hk_meta.specs.Metadata.{Pair, Pairs, put}
-use Rattle.hk_meta.specs.Scalar.{is_blank, joined}
+use Rattle.hk_meta.specs.Scalar.{is_blank, with_one_more}
 use Rattle.hk_meta.specs.declared.answer.Split.{Split}
 use Rattle.hk_meta.specs.declared.answer.HeaderFault.{HeaderFault}
 use Rattle.hk_meta.specs.declared.answer.HeaderFault.TheVariants.{Unclosed, BadLine}
@@ -30,7 +30,7 @@ members_of (refused ∷ ls) = members_of ls
 
 -- members joined by `, `, the empty text where there are none
 abbrev pub join_after : Option Bytes → List Bytes → Bytes
-join_after before members = unwrap_or (fold joined before members) []
+join_after before members = unwrap_or (fold with_one_more before members) []
 
 abbrev pub join : List Bytes → Bytes
 join members = join_after None members

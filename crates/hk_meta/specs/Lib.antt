@@ -7,6 +7,7 @@ pub mod Line
 pub mod LineView
 pub mod Lines
 pub mod Metadata
+pub mod Moments
 pub mod Reader
 pub mod Scalar
 pub mod ScalarView

@@ -12,13 +12,13 @@ Pair = Bytes × Bytes
 abbrev pub Pairs : Type 0
 Pairs = List Pair
 
-abbrev pub is_key : Bytes → Bytes → Bool
-is_key key other = pointwise nat_eq key other
+abbrev pub same_name : Bytes → Bytes → Bool
+same_name key other = pointwise nat_eq key other
 
 -- the value of a key
 abbrev pub value_of : Bytes → Pairs → Option Bytes
 value_of key [] = None
-value_of key (p ∷ ps) = if is_key key p.0 then Some p.1 else value_of key ps
+value_of key (p ∷ ps) = if same_name key p.0 then Some p.1 else value_of key ps
 
 -- no key stands twice
 abbrev pub keys_differ : Pairs → Bool
@@ -28,7 +28,7 @@ keys_differ (p ∷ ps) = is_none (value_of p.0 ps) && keys_differ ps
 -- a key that is there keeps its place and takes the value, and a new one goes last
 abbrev pub put : Bytes → Bytes → Pairs → Pairs
 put key value [] = (key, value) ∷ []
-put key value (p ∷ ps) = if is_key key p.0 then (p.0, value) ∷ ps else p ∷ put key value ps
+put key value (p ∷ ps) = if same_name key p.0 then (p.0, value) ∷ ps else p ∷ put key value ps
 
 -- a pair whose key isn't there goes last
 abbrev pub add_absent : Pairs → Pair → Pairs

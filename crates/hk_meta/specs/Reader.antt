@@ -4,7 +4,7 @@ use Rattle.std.specs.Option.{unwrap_or}
 use Rattle.hk_base.specs.Bytes.{Bytes}
 use Rattle.hk_meta.specs.Line.{Line, ignored, member, key_line, refused}
 use Rattle.hk_meta.specs.Metadata.{Pairs, put}
-use Rattle.hk_meta.specs.Scalar.{joined}
+use Rattle.hk_meta.specs.Scalar.{with_one_more}
 
 -- a key, and the join of the members so far
 abbrev pub OpenList : Type 0
@@ -27,7 +27,7 @@ with_key key (Some value) pairs = (put key value pairs, None)
 
 abbrev pub with_member : Bytes → Pairs → Option OpenList → Option State
 with_member value pairs None = None
-with_member value pairs (Some o) = Some (pairs, Some (o.0, joined o.1 value))
+with_member value pairs (Some o) = Some (pairs, Some (o.0, with_one_more o.1 value))
 
 -- after one more line; nothing where it is refused
 abbrev pub step : State → Line → Option State

@@ -60,9 +60,9 @@ unfoldable pub quoted : ℕ → Bytes → Option (Bytes × Bytes)
 quoted quote text = if quote == 34 then double_from [] false text else single_from [] false text
 
 -- members joined by `, `, given what the earlier ones came to
-abbrev pub joined : Option Bytes → Bytes → Option Bytes
-joined None member = Some member
-joined (Some text) member = Some (text ++ (44 ∷ 32 ∷ member))
+abbrev pub with_one_more : Option Bytes → Bytes → Option Bytes
+with_one_more None member = Some member
+with_one_more (Some text) member = Some (text ++ (44 ∷ 32 ∷ member))
 
 -- a bracketed list's plain member ends before one of `,`, `[`, `]`, `{` and `}`
 abbrev pub ends_member : ℕ → Bool
@@ -74,7 +74,7 @@ member_len text = prefix_len (λ c. not (ends_member c)) text
 -- a plain member without bytes is skipped
 abbrev pub joined_plain : Option Bytes → Bytes → Option Bytes
 joined_plain before [] = before
-joined_plain before (c ∷ cs) = joined before (c ∷ cs)
+joined_plain before (c ∷ cs) = with_one_more before (c ∷ cs)
 
 -- the members with one more, and what follows it
 abbrev pub plain_member : Option Bytes → Bytes → Option (Option Bytes × Bytes)
@@ -82,7 +82,7 @@ plain_member before text = Some (joined_plain before (trim_end (take (member_len
 
 abbrev pub quoted_member : Option Bytes → Option (Bytes × Bytes) → Option (Option Bytes × Bytes)
 quoted_member before None = None
-quoted_member before (Some (value, rest)) = Some (joined before value, skip_blanks rest)
+quoted_member before (Some (value, rest)) = Some (with_one_more before value, skip_blanks rest)
 
 unfoldable pub read_member : Option Bytes → Bytes → Option (Option Bytes × Bytes)
 read_member before [] = plain_member before []

@@ -44,7 +44,8 @@ fn read_value(text: Option<&[u8]>) -> Option<Moment>
     }
 }
 
-fn last_component(path: &[u8]) -> &[u8]
+/// What follows the last `/` of a path, or all of it, lent. Linear in what is given; takes no memory.
+pub fn last_component(path: &[u8]) -> &[u8]
     ensures { result.now ≡ spec.last_component path.now }
 {
     let mut start = path.len();

@@ -8,8 +8,8 @@ ghost use Rattle.jiff_strtime.specs.Text.{parts_of};
 
 use crate::Moment;
 use hk_base::{NoMemory, Text};
-use jiff::civil;
 use jiff::fmt::strtime::{self, BrokenDownTime, Config, Locale};
+use jiff::{Error, civil};
 use std::alloc::Global;
 
 /// Prints a moment by a pattern: `%Y` in four digits, `%m`, `%d`, `%H`, `%M` and `%S` in two, `%e` as the day in two
@@ -28,7 +28,11 @@ pub fn format_date(alloc: Global, date: &Moment, pattern: &[u8]) -> Result<Text,
     };
     match strtime::to_bytes(alloc, config, pattern, &make_parts(date)) {
         Ok(bytes) => Ok(Text::from_vec(bytes)),
-        Err(_) => Err(NoMemory),
+        Err(error) => {
+            // A pattern that is accepted prints each moment.
+            prove!(matches!(&error, Error::OutOfMemory));
+            Err(NoMemory)
+        }
     }
 }
 

@@ -1,7 +1,7 @@
 // Members of a list, joined.
 ghost use Rattle.std.specs.Prelude.{◌≡◌, [], None, IfOk};
 ghost use Rattle.std.specs.Option.{unwrap_or};
-ghost use Rattle.hk_meta.specs.Scalar.{joined};
+ghost use Rattle.hk_meta.specs.Scalar.{with_one_more};
 
 use hk_base::NoMemory;
 use std::alloc::Global;
@@ -35,7 +35,7 @@ impl Joined {
     }
 
     pub fn push(&mut self, member: &[u8]) -> Result<(), NoMemory>
-        ensures { IfOk result (λ _. self.new ≡ joined self.old member.now) }
+        ensures { IfOk result (λ _. self.new ≡ with_one_more self.old member.now) }
     {
         if self.begun {
             self.text.extend_from_slice(b", ")?;

@@ -14,7 +14,7 @@ mod reader;
 mod scalar;
 
 pub use answer::{HeaderFault, Split};
-pub use date::{Moment, date_of};
+pub use date::{Moment, date_of, last_component};
 pub use date_format::format_date;
 pub use date_pattern::pattern_ok;
 pub use header::{read_companion, split};

@@ -58,9 +58,9 @@ output fails = record { written = []; fails = fails; writes = 0; faults = 0 }
 abbrev pub torn_of : MemOutput → Option ℕ
 torn_of o = option_map (λ m. m.1) (find (λ m. m.0 == o.writes + 1) o.fails)
 
-abbrev pub torn_fate : Option ℕ → Fate
-torn_fate None = Works
-torn_fate (Some count) = Tears count
+abbrev pub write_fate : Option ℕ → Fate
+write_fate None = Works
+write_fate (Some count) = Tears count
 
 -- the bytes after a write: all at the end, after a fault what its fate leaves, or no change
 abbrev pub appended_by : {A : Type 0} → Fate → Bytes → Result A TreeFault → Bytes → Bytes
@@ -73,7 +73,7 @@ appended_by (Tears count) bytes (Err NoMemory) written = written
 -- the sink after a write with this answer
 abbrev pub after_write : {A : Type 0} → Bytes → Result A TreeFault → MemOutput → MemOutput
 after_write bytes r o = record {
-  written = appended_by (torn_fate (torn_of o)) bytes r o.written;
+  written = appended_by (write_fate (torn_of o)) bytes r o.written;
   fails = o.fails;
   writes = one_more o.writes;
   faults = if is_failed r then one_more o.faults else o.faults;

@@ -1,6 +1,6 @@
 // A sink in memory whose writes fail as it was told.
 ghost use Rattle.std.specs.Prelude.{◌≡◌, IsOkAnd, ◌+◌, ◌==◌, find, option_map};
-ghost use Rattle.hk_outside.specs.Mem.{Fated, after_write, output, torn_fate, torn_of};
+ghost use Rattle.hk_outside.specs.Mem.{Fated, after_write, output, write_fate, torn_of};
 
 use crate::held::first;
 use crate::{Sink, TreeFault};
@@ -61,7 +61,7 @@ impl Sink for MemSink {
 
     /// Linear in the bytes, but for the moves of a growing buffer.
     fn write(&mut self, _alloc: Global, bytes: &[u8]) -> Result<(), TreeFault>
-        ensures fate { Fated (torn_fate (torn_of self.old)) result }
+        ensures fate { Fated (write_fate (torn_of self.old)) result }
         ensures after { self.new ≡ after_write bytes.now result self.old }
         ensures appends { Appends bytes.now (Some self.old.written) (Some self.new.written) result }
         ensures cause { HasCause self.old.faults self.new.faults result }

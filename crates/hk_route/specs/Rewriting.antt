@@ -24,9 +24,12 @@ abbrev pub front_by : Bytes → Option ℕ → Bytes
 front_by path (Some at) = take at path
 front_by path None = path
 
+abbrev pub without_extension : Bytes → Bytes
+without_extension path = front_by path (extension_at true path)
+
 -- the path with this extension in place of its own
 abbrev pub with_extension : Bytes → Bytes → Bytes
-with_extension extension path = front_by path (extension_at true path) ++ 46 ∷ extension
+with_extension extension path = without_extension path ++ 46 ∷ extension
 
 abbrev pub occurs : Bytes → Bytes → Bool
 occurs old path = not (length old == 0) && starts_with nat_eq path old

@@ -4,4 +4,5 @@
 mod rewriting;
 mod route;
 
+pub use rewriting::without_extension;
 pub use route::{Route, RouteFault, target};

@@ -9,15 +9,23 @@ use std::alloc::Global;
 pub(crate) fn with_extension(alloc: Global, extension: &[u8], path: &[u8]) -> Result<Text, NoMemory>
     ensures { IfOk result (λ text. text ≡ spec.with_extension extension.now path.now) }
 {
-    let front = match extension_at(path) {
-        Some(at) => &path[..at],
-        None => path,
-    };
+    let front = without_extension(path);
     let mut bytes = Vec::with_capacity(alloc, front.len() + 1 + extension.len())?;
     bytes.extend_from_slice(front)?;
     bytes.push(b'.')?;
     bytes.extend_from_slice(extension)?;
     Ok(Text::from_vec(bytes))
+}
+
+/// The path without the extension of its last component, lent. The extension begins at the component's last dot that isn't
+/// its first byte. One pass; takes no memory.
+pub fn without_extension(path: &[u8]) -> &[u8]
+    ensures { result.now ≡ spec.without_extension path.now }
+{
+    match extension_at(path) {
+        Some(at) => &path[..at],
+        None => path,
+    }
 }
 
 /// Where the last component's extension begins.

@@ -10,7 +10,8 @@ use Rattle.hk_meta.specs.DatePattern.{pattern_ok}
 use Rattle.hk_base.specs.Key.{is_key}
 use Rattle.hk_forms.specs.Members.{keys_pass, fits, only, two, each, count_items}
 use Rattle.hk_forms.specs.PatternForm.{pattern_of}
-use Rattle.hk_steps.specs.StepForm.{final_name, context_by, snapshot_by}
+use Rattle.hk_steps.specs.StepForm.{context_by, snapshot_by}
+use Rattle.hk_chain.specs.Names.{final_name}
 use Rattle.hk_steps.specs.declared.draft.DraftField.{DraftField}
 use Rattle.hk_steps.specs.declared.draft.DraftField.TheVariants.{Default, Whole, Several}
 

@@ -3,6 +3,7 @@ use Rattle.std.specs.Prelude.{ℕ, ◌&&◌, nat_le, Bool, List, Option, Some, N
 use Rattle.toml.specs.Data.{Data, Items, Members, as_str, as_array, as_table}
 use Rattle.hk_base.specs.Bytes.{Bytes}
 use Rattle.hk_base.specs.Identifier.{Ident}
+use Rattle.hk_chain.specs.Names.{final_name}
 use Rattle.hk_chain.specs.declared.chain.Step.{Step}
 use Rattle.hk_chain.specs.declared.chain.Step.TheVariants.{Body, Str, Copy, TemplateBody, Make, Load, Save, Relativize}
 use Rattle.hk_forms.specs.Names.{is_context_name, is_snapshot_name}
@@ -12,10 +13,7 @@ use Rattle.hk_forms.specs.PatternForm.{pattern_of}
 use Rattle.hk_steps.specs.declared.draft.DraftStep.{DraftStep}
 use Rattle.hk_steps.specs.declared.draft.DraftStep.TheVariants.{Ready, Concat, Apply, SelfApply}
 
--- the name of the page that an item ends with, and of the context that is built in
-abbrev pub final_name : Bytes
-final_name = codes "_final"
-
+-- the name of the context that is built in
 abbrev pub default_name : Bytes
 default_name = codes "default"
 

@@ -4,6 +4,7 @@ ghost use Rattle.toml.specs.Data.{as_str, as_array, as_table};
 ghost use Rattle.toml.specs.View.{view, table_view, items_view};
 ghost use Rattle.hk_forms.specs.Members as members;
 ghost use Rattle.hk_forms.specs.IdForm as ids;
+ghost use Rattle.hk_chain.specs.Names as built_in;
 ghost use Rattle.hk_steps.specs.StepForm as spec;
 ghost use Rattle.hk_steps.specs.declared.draft.DraftStep.TheVariants as made;
 ghost use Rattle.hk_chain.specs.declared.chain.Step.TheVariants as step;
@@ -26,7 +27,7 @@ const MOST_SAVES: usize = 16;
 
 /// The name of the page that an item ends with.
 pub(crate) fn final_name(alloc: Global) -> Result<Text, NoMemory>
-    ensures { IfOk result (λ t. t ≡ spec.final_name) }
+    ensures { IfOk result (λ t. t ≡ built_in.final_name) }
 {
     Text::from_slice(alloc, b"_final")
 }
@@ -325,7 +326,7 @@ fn make_of(alloc: Global, text: Option<&str>) -> Result<Option<DraftStep>, NoMem
 }
 
 fn load_of(alloc: Global, value: &Value) -> Result<Option<DraftStep>, NoMemory>
-    ensures { IfOk result (λ o. o ≡ spec.load_by (ids.id_of (view value.now)) (Some spec.final_name)) }
+    ensures { IfOk result (λ o. o ≡ spec.load_by (ids.id_of (view value.now)) (Some built_in.final_name)) }
 {
     let id = id_of(alloc, value)?;
     let snapshot = final_name(alloc)?;

@@ -12,6 +12,5 @@ pub mod Pooling
 pub mod Regrouping
 pub mod Relinking
 pub mod Renumbering
-pub mod Sorting
 pub mod Tagging
 pub mod Turning

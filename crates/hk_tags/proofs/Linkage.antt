@@ -17,7 +17,7 @@ use Rattle.hk_rules_file.specs.Saves.{saved, saves}
 use Rattle.hk_rules_file.proofs.LinkedFields.{field-more}
 use Rattle.hk_rules_file.proofs.LinkedNumbers.{all-push, all-append, all-weaken, distinct-push, numbered-grown, numbered-below}
 use Rattle.hk_rules_file.proofs.LinkedSteps.{within-more}
-use Rattle.hk_steps.specs.StepForm.{final_name}
+use Rattle.hk_chain.specs.Names.{final_name}
 use Rattle.hk_tags.specs.Expanding.{GrownView, is_ident, page_ident, grown_by, with_one}
 use Rattle.hk_tags.specs.Growing.{MakingView, step_in, const_field, context_at, page_context, page_rule, ids_of}
 use Rattle.hk_tags.specs.Pages.{PageView}

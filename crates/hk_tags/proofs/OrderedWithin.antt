@@ -8,7 +8,7 @@ use Rattle.hk_chain.specs.declared.context.Order.TheVariants as orders
 use Rattle.hk_meta.specs.declared.date.Moment.{Moment}
 use Rattle.hk_rules.specs.Plan.{Lookups}
 use Rattle.hk_rules_file.specs.declared.tables.PageRule.{PageRule}
-use Rattle.hk_tags.specs.Sorting.{put_by}
+use Rattle.hk_chain.specs.Sorting.{put_by}
 use Rattle.hk_tags.specs.Dates.{Dated, with_date, dated, is_earlier, by_date, item_in, chronological, reversed, ordered}
 use Rattle.hk_tags.specs.Expanding.{dated_pages}
 use Rattle.hk_tags.specs.Listings.{ArePagesWithin}

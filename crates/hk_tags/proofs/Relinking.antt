@@ -13,11 +13,11 @@ use Rattle.hk_rules_file.specs.Linked.{IsStepWithin, IsLinkedField, IsLinkedChai
 use Rattle.hk_rules_file.specs.Saves.{saved, saves}
 use Rattle.hk_rules_file.specs.declared.rules.Rule.{Rule}
 use Rattle.hk_rules_file.specs.declared.tables.FeedRule.{FeedRule}
-use Rattle.hk_steps.specs.StepForm.{final_name}
+use Rattle.hk_chain.specs.Names.{final_name}
 use Rattle.hk_tags.specs.Expanding.{whole}
 use Rattle.hk_tags.specs.Growing.{GrowingView}
 use Rattle.hk_tags.specs.NameOrder.{is_named_before, by_name, numbers_of, step_by, field_by, rule_by, context_by, in_name_order}
-use Rattle.hk_tags.specs.Sorting.{put_by}
+use Rattle.hk_chain.specs.Sorting.{put_by}
 use Rattle.hk_tags.proofs.Renumbering.{KeepsBelow, new-below, all-by_name, order-ascends, ascending-differ}
 
 module _ (numbers : List ℕ) (c p : ℕ) (keeps : KeepsBelow c numbers) where

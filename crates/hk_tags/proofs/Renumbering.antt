@@ -21,8 +21,8 @@ use Rattle.hk_rules_file.proofs.LinkedNumbers.{all-weaken}
 use Rattle.hk_rules_file.specs.declared.rules.Rule.{Rule}
 use Rattle.hk_tags.specs.Growing.{GrowingView}
 use Rattle.hk_tags.specs.NameOrder.{comes_before, is_named_before, is_before, by_name, number_of, numbers_of, new_number, rule_by, context_by, renumbered, in_name_order}
-use Rattle.hk_tags.specs.Sorting.{put_by}
-use Rattle.hk_tags.proofs.Sorting.{not-before}
+use Rattle.hk_chain.specs.Sorting.{put_by}
+use Rattle.hk_chain.proofs.Sorting.{not-before}
 
 abbrev R : Bytes → Bytes → Ordering
 R = slice_cmp nat_cmp

@@ -1,13 +1,13 @@
 -- The order of a table's members.
 use Rattle.std.specs.Prelude.{ℕ, Bool, List, [], ◌∷◌, map, reverse, Option, Some, None, Result, Ok, Err}
-use Rattle.std.specs.Ordering.{int_cmp, nat_cmp, ordering_then, is_lt}
-use Rattle.std.specs.declared.cmp.Ordering.{Ordering}
+use Rattle.std.specs.Ordering.{is_lt}
 use Rattle.hk_chain.specs.declared.context.Order.{Order}
 use Rattle.hk_chain.specs.declared.context.Order.TheVariants as orders
 use Rattle.hk_meta.specs.declared.date.Moment.{Moment}
+use Rattle.hk_meta.specs.Moments.{moment_cmp}
 use Rattle.hk_rules.specs.Plan.{Lookups}
 use Rattle.hk_tags.specs.Members.{date_at}
-use Rattle.hk_tags.specs.Sorting.{sorted_by}
+use Rattle.hk_chain.specs.Sorting.{sorted_by}
 -- an item with its date
 pub use Rattle.hk_tags.specs.declared.dates.Dated.{Dated}
 
@@ -20,12 +20,6 @@ with_date item (Some date) (Err other) = Err other
 abbrev pub dated : Lookups → List ℕ → Result (List Dated) ℕ
 dated plan [] = Ok []
 dated plan (item ∷ items) = with_date item (date_at plan item) (dated plan items)
-
--- the order of time
-abbrev pub moment_cmp : Moment → Moment → Ordering
-moment_cmp a b =
-    ordering_then (int_cmp a.year b.year) (ordering_then (nat_cmp a.month b.month) (ordering_then (nat_cmp a.day b.day)
-    (ordering_then (nat_cmp a.hour b.hour) (ordering_then (nat_cmp a.minute b.minute) (nat_cmp a.second b.second)))))
 
 abbrev pub is_earlier : Dated → Dated → Bool
 is_earlier a b = is_lt (moment_cmp a.date b.date)

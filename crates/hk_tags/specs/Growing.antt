@@ -17,7 +17,7 @@ use Rattle.hk_rules_file.specs.declared.rules.Rule.{Rule}
 use Rattle.hk_rules_file.specs.declared.rules.RuleSource.TheVariants.{Create}
 use Rattle.hk_rules_file.specs.declared.tables.PageRule.{PageRule}
 use Rattle.hk_rules_file.specs.declared.tables.TagRule.{TagRule}
-use Rattle.hk_steps.specs.StepForm.{final_name}
+use Rattle.hk_chain.specs.Names.{final_name}
 use Rattle.hk_tags.specs.Pages.{PageView}
 
 -- how the pages of a table are made

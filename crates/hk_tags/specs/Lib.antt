@@ -7,7 +7,6 @@ pub mod Members
 pub mod NameOrder
 pub mod Ordered
 pub mod Pages
-pub mod Sorting
 pub mod TagTexts
 pub mod Untabled
 pub mod Turns

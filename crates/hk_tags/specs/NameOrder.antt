@@ -12,7 +12,7 @@ use Rattle.hk_chain.specs.declared.context.Field.TheVariants.{List as ListField}
 use Rattle.hk_rules_file.specs.Linked.{context_names}
 use Rattle.hk_rules_file.specs.declared.rules.Rule.{Rule}
 use Rattle.hk_tags.specs.Growing.{GrowingView}
-use Rattle.hk_tags.specs.Sorting.{sorted_by}
+use Rattle.hk_chain.specs.Sorting.{sorted_by}
 
 abbrev pub comes_before : Bytes → Bytes → Bool
 comes_before a b = is_lt (slice_cmp nat_cmp a b)

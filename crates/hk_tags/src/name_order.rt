@@ -73,13 +73,13 @@ fn numbers_of(
 {
     let mut numbers = Vec::with_capacity(alloc, names.len())?;
     for name in names {
-        numbers.push(number_of(place_of(contexts, name))?)?;
+        numbers.push(number_of(place_of_context(contexts, name))?)?;
     }
     Ok(numbers)
 }
 
 /// How many contexts have a name before this one.
-fn place_of(contexts: &[Context], name: &Text) -> usize
+fn place_of_context(contexts: &[Context], name: &Text) -> usize
     requires { IsSortedBy spec.is_named_before contexts.now }
     ensures { result ≡ spec.number_of contexts.now name.now }
 {

@@ -3,7 +3,7 @@ use Rattle.std.proofs.Common.{◌≡◌, ℕ, ◌+◌, ◌<◌, ◌≤◌, Bool,
 use Rattle.hk_base.specs.Bytes.{Bytes}
 use Rattle.hk_template.specs.declared.fault.TemplateFault.{TemplateFault}
 use Rattle.hk_template.specs.Token.{Word, key, if_, else_, endif, for_, sep, endfor, partial}
-use Rattle.hk_template.specs.Tree.{Node, Nodes, no_nodes, node, joined, text_node, dollar_node, key_node, if_node, if_else_node, for_node, for_sep_node, partial_node, node_tokens, nodes_tokens, depth, nodes_depth, Plain, plain_text, plain_dollar, plain_tag}
+use Rattle.hk_template.specs.Tree.{Node, Nodes, no_nodes, node, joined_nodes, text_node, dollar_node, key_node, if_node, if_else_node, for_node, for_sep_node, partial_node, node_tokens, nodes_tokens, depth, nodes_depth, Plain, plain_text, plain_dollar, plain_tag}
 use Rattle.hk_template.specs.Growing.{Head, Frame, if_frame, else_frame, for_frame, sep_frame, State, with_node, opening, word_step, finished, head_of, start}
 use Rattle.hk_template.specs.TreeCode.{joined-nil}
 use Rattle.hk_template.proofs.Nodes.{joined-assoc, nodes_tokens-joined}
@@ -26,7 +26,7 @@ grow_open : (make : Head → Frame) (k : Bytes) (st : State) (onward : State →
 grow_open make k st onward h = rw (lt-ltb (length st.forms) 64 h) refl
 
 abbrev with_nodes : Nodes → State → State
-with_nodes ns st = record { nodes = joined st.nodes ns; forms = st.forms }
+with_nodes ns st = record { nodes = joined_nodes st.nodes ns; forms = st.forms }
 
 mutual
   grow_node : (n : Node) (st : State) (rest : List Plain) → length st.forms + depth n ≤ 64 → grow st (node_tokens n ++ rest) ≡ grow (with_node n st) rest

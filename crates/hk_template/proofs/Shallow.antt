@@ -4,7 +4,7 @@ use Rattle.hk_base.specs.Bytes.{Bytes}
 use Rattle.hk_template.specs.declared.fault.TemplateFault.{TemplateFault}
 use Rattle.hk_template.specs.declared.fault.TemplateFault.TheVariants.{TooDeep}
 use Rattle.hk_template.specs.Token.{Word, key, if_, else_, endif, for_, sep, endfor, partial}
-use Rattle.hk_template.specs.Tree.{Node, Nodes, no_nodes, node, joined, text_node, dollar_node, key_node, if_node, if_else_node, for_node, for_sep_node, partial_node, depth, nodes_depth, Plain, plain_text, plain_dollar, plain_tag}
+use Rattle.hk_template.specs.Tree.{Node, Nodes, no_nodes, node, joined_nodes, text_node, dollar_node, key_node, if_node, if_else_node, for_node, for_sep_node, partial_node, depth, nodes_depth, Plain, plain_text, plain_dollar, plain_tag}
 use Rattle.hk_template.specs.Growing.{Head, Frame, if_frame, else_frame, for_frame, sep_frame, State, with_node, opening, word_step, finished, head_of, start}
 use Rattle.hk_template.proofs.Nodes.{depth-joined}
 use Rattle.hk_template.proofs.Growth.{grow, on_state}
@@ -26,8 +26,8 @@ state_depth st = max (around_depth st.forms) (length st.forms + nodes_depth st.n
 abbrev Stays : State → Result State TemplateFault → Type 0
 Stays st r = state_depth st ≤ 64 → IfOk r (λ next. state_depth next ≤ 64)
 
-leaf_stays : (n : Node) (ns : Nodes) (fs : List Frame) → depth n ≡ 0 → max (around_depth fs) (length fs + nodes_depth ns) ≤ 64 → max (around_depth fs) (length fs + nodes_depth (joined ns (node n no_nodes))) ≤ 64
-leaf_stays n ns fs e h = let d : nodes_depth (joined ns (node n no_nodes)) ≡ max (nodes_depth ns) (max (depth n) 0) = depth-joined ns (node n no_nodes) in omega arith
+leaf_stays : (n : Node) (ns : Nodes) (fs : List Frame) → depth n ≡ 0 → max (around_depth fs) (length fs + nodes_depth ns) ≤ 64 → max (around_depth fs) (length fs + nodes_depth (joined_nodes ns (node n no_nodes))) ≤ 64
+leaf_stays n ns fs e h = let d : nodes_depth (joined_nodes ns (node n no_nodes)) ≡ max (nodes_depth ns) (max (depth n) 0) = depth-joined ns (node n no_nodes) in omega arith
 
 abbrev one_more_open : ℕ → (Head → Frame) → Bytes → State → State
 one_more_open p make k st = record { nodes = no_nodes; forms = make (record { place = p; key = k; outer = st.nodes }) ∷ st.forms }
@@ -44,8 +44,8 @@ open_stays_by p make k st e f h false t = tt
 open_stays : (p : ℕ) (make : Head → Frame) (k : Bytes) (st : State) → ((head : Head) → frame_depth (make head) ≡ 0) → ((head : Head) → (head_of (make head)).outer ≡ head.outer) → Stays st (opening p make k st)
 open_stays p make k st e f h = open_stays_by p make k st e f h (nat_lt (length st.forms) 64) refl
 
-close_stays : (n : Node) (outer : Nodes) (fs : List Frame) (d : ℕ) → depth n ≤ suc d → max (around_depth fs) (max (length fs + nodes_depth outer) (suc (length fs) + d)) ≤ 64 → max (around_depth fs) (length fs + nodes_depth (joined outer (node n no_nodes))) ≤ 64
-close_stays n outer fs d e h = let g : nodes_depth (joined outer (node n no_nodes)) ≡ max (nodes_depth outer) (max (depth n) 0) = depth-joined outer (node n no_nodes) in omega arith
+close_stays : (n : Node) (outer : Nodes) (fs : List Frame) (d : ℕ) → depth n ≤ suc d → max (around_depth fs) (max (length fs + nodes_depth outer) (suc (length fs) + d)) ≤ 64 → max (around_depth fs) (length fs + nodes_depth (joined_nodes outer (node n no_nodes))) ≤ 64
+close_stays n outer fs d e h = let g : nodes_depth (joined_nodes outer (node n no_nodes)) ≡ max (nodes_depth outer) (max (depth n) 0) = depth-joined outer (node n no_nodes) in omega arith
 
 word_stays : (p : ℕ) (word : Word) (ns : Nodes) (fs : List Frame) → Stays (record { nodes = ns; forms = fs }) (word_step p word (record { nodes = ns; forms = fs }))
 word_stays p (key k) ns fs h = leaf_stays (key_node k) ns fs refl h

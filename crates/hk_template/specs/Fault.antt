@@ -13,11 +13,11 @@ pub data Open : Type 0 where
   in_for : ℕ → Open
   in_sep : ℕ → Open
 
-abbrev pub place_of : Open → ℕ
-place_of (in_if p) = p
-place_of (in_else p) = p
-place_of (in_for p) = p
-place_of (in_sep p) = p
+abbrev pub place_of_open : Open → ℕ
+place_of_open (in_if p) = p
+place_of_open (in_else p) = p
+place_of_open (in_for p) = p
+place_of_open (in_sep p) = p
 
 -- one more form, or a fault where 64 are open
 abbrev pub one_more : ℕ → Open → List Open → Result (List Open) TemplateFault
@@ -47,7 +47,7 @@ opened_by p (tag left word right) os = opened p word os
 
 abbrev pub unclosed : List Open → Option TemplateFault
 unclosed [] = None
-unclosed (o ∷ os) = Some (Unclosed (place_of o))
+unclosed (o ∷ os) = Some (Unclosed (place_of_open o))
 
 abbrev pub at_end : ℕ → List Open → Bool → Option TemplateFault
 at_end p os true = unclosed os

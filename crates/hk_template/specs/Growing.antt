@@ -2,7 +2,7 @@
 use Rattle.std.specs.Prelude.{ℕ, ◌+◌, Bool, true, false, nat_lt, if◌then◌else◌, List, [], ◌∷◌, length, Result, Ok, Err}
 use Rattle.hk_base.specs.Bytes.{Bytes}
 use Rattle.hk_template.specs.Token.{Word, key, if_, else_, endif, for_, sep, endfor, partial, Token, text, dollar, tag, token_text}
-use Rattle.hk_template.specs.Tree.{Node, Nodes, no_nodes, node, joined, text_node, dollar_node, key_node, if_node, if_else_node, for_node, for_sep_node, partial_node, trim_start_if, trim_end_if}
+use Rattle.hk_template.specs.Tree.{Node, Nodes, no_nodes, node, joined_nodes, text_node, dollar_node, key_node, if_node, if_else_node, for_node, for_sep_node, partial_node, trim_start_if, trim_end_if}
 use Rattle.hk_template.specs.Cut.{cut}
 use Rattle.hk_template.specs.declared.fault.TemplateFault.{TemplateFault}
 use Rattle.hk_template.specs.declared.fault.TemplateFault.TheVariants.{BadForm, Unclosed, TooDeep}
@@ -27,7 +27,7 @@ pub record State : Type 0 where
 
 -- one more node
 abbrev pub with_node : Node → State → State
-with_node n st = record { nodes = joined st.nodes (node n no_nodes); forms = st.forms }
+with_node n st = record { nodes = joined_nodes st.nodes (node n no_nodes); forms = st.forms }
 
 abbrev pub opening : ℕ → (Head → Frame) → Bytes → State → Result State TemplateFault
 opening p make k st =
@@ -37,7 +37,7 @@ opening p make k st =
 
 -- the list around a form, with the form as one more node
 abbrev pub closing : Head → List Frame → Node → State
-closing head forms n = record { nodes = joined head.outer (node n no_nodes); forms = forms }
+closing head forms n = record { nodes = joined_nodes head.outer (node n no_nodes); forms = forms }
 
 abbrev pub else_step : ℕ → Nodes → List Frame → Result State TemplateFault
 else_step p ns (if_frame head ∷ fs) = Ok (record { nodes = no_nodes; forms = else_frame head ns ∷ fs })

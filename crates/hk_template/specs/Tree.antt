@@ -20,9 +20,9 @@ mutual
     node : Node → Nodes → Nodes
 
 -- the nodes of both lists, one list after the other
-abbrev pub joined : Nodes → Nodes → Nodes
-joined no_nodes more = more
-joined (node n ns) more = node n (joined ns more)
+abbrev pub joined_nodes : Nodes → Nodes → Nodes
+joined_nodes no_nodes more = more
+joined_nodes (node n ns) more = node n (joined_nodes ns more)
 
 -- a token without its dashes
 pub data Plain : Type 0 where

@@ -2,8 +2,8 @@
 use Rattle.std.proofs.Common.{◌≡◌, ℕ, cond, ◌==◌, List, [], ◌∷◌, ◌++◌, refl, sym, ap, ◌∙◌, append_assoc, append-nil}
 use Rattle.std.specs.Coded.{Coded, code_by, coded×, coded_ℕ, coded_list}
 use Rattle.hk_base.specs.Bytes.{Bytes}
-use Rattle.hk_template.specs.Token.{Word, key, if_, else_, endif, for_, sep, endfor, partial}
-use Rattle.hk_template.specs.Tree.{Node, Nodes, text_node, dollar_node, key_node, if_node, if_else_node, for_node, for_sep_node, partial_node, no_nodes, node, joined, Plain, plain_text, plain_dollar, plain_tag, node_tokens, nodes_tokens}
+use Rattle.hk_template.specs.Token.{key, if_, else_, endif, for_, sep, endfor, partial}
+use Rattle.hk_template.specs.Tree.{Node, Nodes, text_node, dollar_node, key_node, if_node, if_else_node, for_node, for_sep_node, partial_node, no_nodes, node, joined_nodes, Plain, plain_text, plain_dollar, plain_tag, node_tokens, nodes_tokens}
 
 abbrev pair_of : Plain → ℕ × Bytes
 pair_of (plain_text bytes) = (0, bytes)
@@ -73,9 +73,9 @@ behind [] = nothing
 behind (p ∷ ps) = read p (behind ps)
 
 abbrev put : Nodes → Behind → Behind
-put ns b = record { nodes = joined ns b.nodes; forms = b.forms }
+put ns b = record { nodes = joined_nodes ns b.nodes; forms = b.forms }
 
-pub joined-nil : (a : Nodes) → joined a no_nodes ≡ a
+pub joined-nil : (a : Nodes) → joined_nodes a no_nodes ≡ a
 joined-nil no_nodes = refl
 joined-nil (node n ns) = ap (node n) (joined-nil ns)
 

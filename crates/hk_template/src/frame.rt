@@ -1,6 +1,6 @@
 // What the parser holds: the nodes so far and the forms that are open.
 ghost use Rattle.std.specs.Prelude.{◌≡◌, OnOk};
-ghost use Rattle.hk_template.specs.Tree.{node, no_nodes, joined};
+ghost use Rattle.hk_template.specs.Tree.{node, no_nodes, joined_nodes};
 ghost use Rattle.hk_template.specs.View.{node_view, nodes_view};
 
 use crate::node::Node;
@@ -33,7 +33,7 @@ pub struct Parser {
 /// Adds a node at the end.
 #[tactic(auto, using(crate::proofs::Nodes::nodes_view_push))]
 pub fn push_node(nodes: &mut Vec<Node>, child: Node) -> Result<(), NoMemory>
-    ensures { OnOk result (nodes_view nodes.new.items ≡ joined (nodes_view nodes.old.items) (node (node_view child) no_nodes)) }
+    ensures { OnOk result (nodes_view nodes.new.items ≡ joined_nodes (nodes_view nodes.old.items) (node (node_view child) no_nodes)) }
 {
     nodes.push(child)?;
     Ok(())

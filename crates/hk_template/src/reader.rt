@@ -120,13 +120,13 @@ impl Parser {
         match forms.pop() {
             None => Ok(Template { nodes }),
             Some(frame) => Err(Refusal::Fault(TemplateFault::Unclosed {
-                place: place_of(&frame),
+                place: place_of_form(&frame),
             })),
         }
     }
 }
 
-fn place_of(frame: &Frame) -> u64
+fn place_of_form(frame: &Frame) -> u64
     ensures { result ≡ (spec.head_of (frame_view frame.now)).place }
 {
     match frame {

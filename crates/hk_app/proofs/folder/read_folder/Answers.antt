@@ -1,4 +1,4 @@
-use Rattle.hk_app.specs.Site.{is_read}
+use Rattle.hk_app.specs.FolderReading.{is_read}
 use Rattle.hk_app.proofs.FolderReads.{whole_folder}
 use Rattle.hk_app.proofs.folder.read_folder.Goals as goal
 

@@ -1,5 +1,5 @@
 use Rattle.std.proofs.Common.{◌≡◌, drop}
-use Rattle.hk_app.specs.Site.{rules_path, found_at}
+use Rattle.hk_app.specs.FolderReading.{rules_path, found_at}
 use Rattle.hk_app.proofs.reading.rules_text.Given as goal
 
 abbrev pub invariant-loop-path : goal.invariant-loop-path

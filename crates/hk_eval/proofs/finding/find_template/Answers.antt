@@ -1,7 +1,7 @@
 use Rattle.std.proofs.Common.{sym, ap, ◌∙◌, subst, IfOk}
 use Rattle.hk_chain.specs.declared.fault.Fault.TheVariants.{Missing, NoSnapshot}
 use Rattle.hk_fix.specs.Task.{Task, fault}
-use Rattle.hk_rules.specs.Pairs.{final_name}
+use Rattle.hk_chain.specs.Names.{final_name}
 use Rattle.hk_rules.specs.Plan.{lookups}
 use Rattle.hk_template.specs.Tree.{Nodes}
 use Rattle.hk_eval.specs.Replies.{found_end, Comes}

@@ -1,7 +1,7 @@
 use Rattle.std.proofs.Common.{◌≡◌, sym, ◌∙◌, Some}
 use Rattle.hk_chain.specs.declared.fault.Fault.TheVariants.{NoSnapshot}
 use Rattle.hk_fix.specs.Pages.{Pages}
-use Rattle.hk_rules.specs.Pairs.{final_name}
+use Rattle.hk_chain.specs.Names.{final_name}
 use Rattle.hk_eval.specs.Replies.{found_end}
 use Rattle.hk_eval.specs.Told.{told_pages}
 use Rattle.hk_eval.proofs.Comings.{template-made}

@@ -1,5 +1,5 @@
 use Rattle.std.proofs.Common.{◌≡◌, sym, ap, ◌∙◌, arith, ℕ, List, cond, ◌++◌, ◌∷◌, [], get_or}
-use Rattle.hk_eval.proofs.Firsts.{add-turn}
+use Rattle.hk_eval.proofs.NotedLogs.{add-turn}
 use Rattle.hk_eval.proofs.notes.add_all.Goals as goal
 use Rattle.hk_eval.proofs.notes.add_all.Goals.{then-branch+in_ok-push, else-branch}
 

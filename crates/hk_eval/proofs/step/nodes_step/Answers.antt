@@ -9,7 +9,7 @@ use Rattle.hk_eval.specs.Told.{told_pages}
 use Rattle.hk_eval.specs.declared.frame.Frame.TheVariants as frames
 use Rattle.hk_eval.specs.declared.moves.Move.{Move}
 use Rattle.hk_eval.specs.declared.moves.Move.TheVariants as moves
-use Rattle.hk_eval.specs.declared.moves.Step.TheVariants as steps
+use Rattle.hk_eval.specs.declared.moves.Act.TheVariants as acts
 use Rattle.hk_eval.proofs.Advancing.{goes-none}
 use Rattle.hk_eval.proofs.Naming.{names-at}
 use Rattle.hk_eval.proofs.Stacks.{nodes-end, step-wrote, step-pushed, step-asks, step-fails}
@@ -51,7 +51,7 @@ pub returns-in_ok-push-in-Asks-clause-steps : goal.returns-in_ok-push-in-Asks-cl
 returns-in_ok-push-in-Asks-clause-steps c =
     let p = lookups c.args.plan.now in
     step-asks p c.args.frames.now.items c.args.section c.args.out.now.items (part_node c.in-Some.part.now) c.in-Some.ensures.1 (told_pages c.args.told.now) c.args.notes.now c.node_move.new.notes c.node_move.new.out.items c.push-in-Asks.new.self.items
-    (steps.Asks c.in-Asks.pairs) c.in_ok-moved-in-Some.moved c.in_ok-moved-in-Some.ensures.moves c.in_ok-push-in-Asks.ensures.items c.in-Asks.pairs c.in-Asks.is refl
+    (acts.Asks c.in-Asks.pairs) c.in_ok-moved-in-Some.moved c.in_ok-moved-in-Some.ensures.moves c.in_ok-push-in-Asks.ensures.items c.in-Asks.pairs c.in-Asks.is refl
 
 pub returns-in-Fails-clause-steps : goal.returns-in-Fails-clause-steps
 returns-in-Fails-clause-steps c =

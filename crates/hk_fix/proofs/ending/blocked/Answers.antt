@@ -3,7 +3,7 @@ use Rattle.std.proofs.lemmas.List.{map-append}
 use Rattle.std.specs.List.{slice_get}
 use Rattle.hk_fix.specs.Outcomes.{outcome_view}
 use Rattle.hk_fix.specs.Report.{on_cycle, waits_of}
-use Rattle.hk_fix.specs.Walks.{place_at, place_of}
+use Rattle.hk_fix.specs.Walks.{place_at, place_on_cycle}
 use Rattle.hk_fix.proofs.Reports.{map-more, map-same, view-at, off-is, off-not, blocks_test, blocks-on, blocks-other, blocks-cycle, off-cycle-of, on-cycle-of}
 use Rattle.hk_fix.proofs.ending.blocked.Goals as goal
 use Rattle.hk_fix.proofs.ending.blocked.Goals.{then-eq+in-Waiting+in_ok-from_slice+in_ok-push, then-eq+in_default, else-eq}
@@ -14,7 +14,7 @@ loop-i-preserved c =
     let outcomes = c.args.outcomes.now in
     let i = c.loop-i.i in
     let f : ℕ → ℕ × List ℕ = λ n. (n, waits_of (slice_get (map outcome_view outcomes) n)) in
-    let here : place_at c.args.places.now i ≡ place_of leads i = c.requires.each i (omega (arith, c.loop-i-test.true, c.requires.leads)) in
+    let here : place_at c.args.places.now i ≡ place_on_cycle leads i = c.requires.each i (omega (arith, c.loop-i-test.true, c.requires.leads)) in
     elim c.if-eq.branch [
       | then-eq+in-Waiting+in_ok-from_slice+in_ok-push w ↦
           let off : on_cycle leads i ≡ false = off-cycle-of leads i (place_at c.args.places.now i) here (off-is (place_at c.args.places.now i) (sym c.eq.ensures ∙ w.if-eq.true)) in

@@ -2,7 +2,7 @@ use Rattle.std.proofs.Common.{rules}
 use Rattle.std.proofs.lemmas.List.Sorted.{answers_always, ranks_by}
 use Rattle.hk_meta.specs.contracts.date.MomentOrd.TheImpl.Laws.{total-law}
 use Rattle.hk_tags.specs.Dates.{Dated, is_earlier}
-use Rattle.hk_tags.proofs.Sorting.{sorted-same}
+use Rattle.hk_chain.proofs.Sorting.{sorted-same}
 use Rattle.hk_tags.proofs.dates.sort.Goals as goal
 
 pub returns : goal.returns

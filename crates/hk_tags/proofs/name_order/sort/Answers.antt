@@ -2,7 +2,7 @@ use Rattle.std.proofs.Common.{rules}
 use Rattle.std.proofs.lemmas.List.Sorted.{answers_always}
 use Rattle.hk_tags.specs.NameOrder.{is_named_before}
 use Rattle.hk_tags.proofs.Renumbering.{name-ranks}
-use Rattle.hk_tags.proofs.Sorting.{sorted-same}
+use Rattle.hk_chain.proofs.Sorting.{sorted-same}
 use Rattle.hk_tags.proofs.name_order.sort.Goals as goal
 
 pub returns-clause-value : goal.returns-clause-value

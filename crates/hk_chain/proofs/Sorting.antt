@@ -4,7 +4,7 @@ use Rattle.std.specs.List.{AllByRecursion}
 use Rattle.std.specs.List.Sorted.{IsSortedBy, IsStableBy, ties}
 use Rattle.std.specs.Cmp.{IsStrictWeakOrder}
 use Rattle.std.proofs.lemmas.List.Sorted.{sorted_far}
-use Rattle.hk_tags.specs.Sorting.{put_by, sorted_by}
+use Rattle.hk_chain.specs.Sorting.{put_by, sorted_by}
 
 module _ {X : Type 0} (earlier : X → X → Bool) where
   -- none of these is earlier

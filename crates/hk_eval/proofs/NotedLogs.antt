@@ -1,72 +1,16 @@
--- Numbers at their first use, and the facts of a log that grows.
-use Rattle.std.proofs.Common.{◌≡◌, refl, sym, ap, ◌∙◌, ℕ, Bool, true, false, cond, ◌||◌, List, [], ◌∷◌, ◌++◌, append_assoc, append-nil, nat_eq, eqb-true, ◌+◌, ◌<◌, length, take, get_or, not}
+-- The facts of a log that grows.
+use Rattle.std.proofs.Common.{◌≡◌, ◌≢◌, refl, sym, ap, ◌∙◌, ℕ, Bool, true, false, cond, ◌||◌, List, [], ◌∷◌, ◌++◌, append_assoc, append-nil, nat_eq, eqb-true, ◌+◌, ◌<◌, length, take, get_or, not, arith}
+use Rattle.std.specs.List.{AllByRecursion, IsDistinct}
 use Rattle.std.proofs.lemmas.List.{take_more}
 use Rattle.hk_chain.specs.Facts.{FactsView, TraceMark, save}
+use Rattle.hk_chain.specs.Snapshots.{Ascending}
 use Rattle.hk_fix.specs.Facts.{is_in, firsts, group_first, trace_of, facts_of}
 use Rattle.hk_fix.specs.Task.{Mark, asked, note, used, saved}
+use Rattle.hk_fix.specs.ChainLaws.{saved_pairs}
 use Rattle.hk_fix.specs.Run.{asks_of, patterns_of}
+use Rattle.hk_fix.proofs.Firsts.{SameMembers, firsts-same, firsts-append, in-firsts, firsts-more}
 use Rattle.hk_fix.proofs.Trails.{in-append}
 use Rattle.hk_eval.specs.Noted.{no_facts, with_group, with_pattern, with_save, note_mark, noted}
-
--- two lists have the same members
-abbrev pub SameMembers : List ℕ → List ℕ → Type 0
-SameMembers a b = (q : ℕ) → is_in a q ≡ is_in b q
-
-or-cons : (n : ℕ) (a b : List ℕ) → SameMembers a b → SameMembers (n ∷ a) (n ∷ b)
-or-cons n a b h = λ q. ap (λ t. nat_eq q n || t) (h q)
-
-pub firsts-same : (a b xs : List ℕ) → SameMembers a b → firsts a xs ≡ firsts b xs
-firsts-same a b [] h = refl
-firsts-same a b (n ∷ ns) h =
-    ap (λ t. cond t (firsts a ns) (n ∷ firsts (n ∷ a) ns)) (h n)
-    ∙ (ap (λ l. cond (is_in b n) l (n ∷ firsts (n ∷ a) ns)) (firsts-same a b ns h) ∙ ap (λ l. cond (is_in b n) (firsts b ns) (n ∷ l)) (firsts-same (n ∷ a) (n ∷ b) ns (or-cons n a b h)))
-
-swap-or : (a b c : Bool) → (a || (b || c)) ≡ (b || (a || c))
-swap-or true true c = refl
-swap-or true false c = refl
-swap-or false true c = refl
-swap-or false false c = refl
-
-absorb : (a b : Bool) → (a ≡ true → b ≡ true) → b ≡ (a || b)
-absorb true b h = h refl
-absorb false b h = refl
-
--- a member that comes later, and one that is there already
-later-member : (n : ℕ) (xs seen : List ℕ) → SameMembers (xs ++ n ∷ seen) (n ∷ xs ++ seen)
-later-member n xs seen = λ q. in-append xs (n ∷ seen) q ∙ (swap-or (is_in xs q) (nat_eq q n) (is_in seen q) ∙ ap (λ t. nat_eq q n || t) (sym (in-append xs seen q)))
-
-member-twice : (n : ℕ) (xs seen : List ℕ) → is_in seen n ≡ true → SameMembers (xs ++ seen) (n ∷ xs ++ seen)
-member-twice n xs seen e = λ q. absorb (nat_eq q n) (is_in (xs ++ seen) q) (λ t. in-append xs seen q ∙ (ap (λ b. is_in xs q || b) (ap (is_in seen) (eqb-true q n t) ∙ e) ∙ or-true (is_in xs q)))
-  where
-    or-true : (b : Bool) → (b || true) ≡ true
-    or-true true = refl
-    or-true false = refl
-
-pub firsts-append : (seen xs ys : List ℕ) → firsts seen (xs ++ ys) ≡ firsts seen xs ++ firsts (xs ++ seen) ys
-firsts-append seen [] ys = refl
-firsts-append seen (n ∷ ns) ys =
-    elim (is_in seen n) as (λ b. is_in seen n ≡ b → cond b (firsts seen (ns ++ ys)) (n ∷ firsts (n ∷ seen) (ns ++ ys)) ≡ cond b (firsts seen ns) (n ∷ firsts (n ∷ seen) ns) ++ firsts (n ∷ ns ++ seen) ys) [
-      | true ↦ λ e. firsts-append seen ns ys ∙ ap (λ l. firsts seen ns ++ l) (firsts-same (ns ++ seen) (n ∷ ns ++ seen) ys (member-twice n ns seen e))
-      | false ↦ λ e. ap (λ l. n ∷ l) (firsts-append (n ∷ seen) ns ys ∙ ap (λ l. firsts (n ∷ seen) ns ++ l) (firsts-same (ns ++ n ∷ seen) (n ∷ ns ++ seen) ys (later-member n ns seen)))
-    ] refl
-
--- the members after some uses
-pub in-firsts : (seen xs : List ℕ) → SameMembers (seen ++ firsts seen xs) (xs ++ seen)
-in-firsts seen [] = λ q. ap (λ l. is_in l q) (append-nil seen)
-in-firsts seen (n ∷ ns) = λ q. in-append seen (firsts seen (n ∷ ns)) q ∙ elim (is_in seen n) as (λ b. is_in seen n ≡ b → (is_in seen q || is_in (cond b (firsts seen ns) (n ∷ firsts (n ∷ seen) ns)) q) ≡ is_in (n ∷ ns ++ seen) q) [
-  | true ↦ λ e. sym (in-append seen (firsts seen ns) q) ∙ (in-firsts seen ns q ∙ member-twice n ns seen e q)
-  | false ↦ λ e. swap-or (is_in seen q) (nat_eq q n) (is_in (firsts (n ∷ seen) ns) q) ∙ (or-assoc (nat_eq q n) (is_in seen q) (is_in (firsts (n ∷ seen) ns) q) ∙ (sym (in-append (n ∷ seen) (firsts (n ∷ seen) ns) q) ∙ (in-firsts (n ∷ seen) ns q ∙ later-member n ns seen q)))
-] refl
-  where
-    or-assoc : (a b c : Bool) → (a || (b || c)) ≡ ((a || b) || c)
-    or-assoc true b c = refl
-    or-assoc false b c = refl
-
--- one more number
-pub firsts-more : (seen xs : List ℕ) (n : ℕ) → firsts seen (xs ++ n ∷ []) ≡ firsts seen xs ++ firsts (seen ++ firsts seen xs) (n ∷ [])
-firsts-more seen xs n = firsts-append seen xs (n ∷ []) ∙ ap (λ l. firsts seen xs ++ l) (firsts-same (xs ++ seen) (seen ++ firsts seen xs) (n ∷ []) (λ q. sym (in-firsts seen xs q)))
-
--- the facts of a log
 
 swap-members : (a b c : List ℕ) → SameMembers b c → SameMembers (a ++ b) (a ++ c)
 swap-members a b c h = λ q. in-append a b q ∙ (ap (λ t. is_in a q || t) (h q) ∙ sym (in-append a c q))
@@ -132,3 +76,35 @@ add-turn start now later ps i p fresh more b lt at was so_far is put pushed =
     either : (t : Bool) (l : List ℕ) → cond (not t) (l ++ p ∷ []) l ≡ l ++ cond t [] (p ∷ [])
     either true l = sym (append-nil l)
     either false l = refl
+
+-- saves that differ, of pairs that nothing is kept for, are fresh
+pub fresh-all : (kept : List ℕ) (log : List Mark) → IsDistinct nat_eq (saved_pairs log) → AllByRecursion (λ p. is_in kept p ≡ false) (saved_pairs log) → FreshSaves kept log
+unfolding IsDistinct
+fresh-all kept [] d h = tt
+fresh-all kept (asked ps ∷ log) d h = fresh-all kept log d h
+fresh-all kept (note (used n) ∷ log) d h = fresh-all kept log d h
+fresh-all kept (note (saved p x) ∷ log) d h = (h.0, fresh-all (p ∷ kept) log d.1 (both (saved_pairs log) d.0 h.1))
+  where
+    both : (qs : List ℕ) → AllByRecursion (λ q. nat_eq p q ≡ false) qs → AllByRecursion (λ q. is_in kept q ≡ false) qs → AllByRecursion (λ q. is_in (p ∷ kept) q ≡ false) qs
+    both [] a b = tt
+    both (q ∷ qs) a b = (or-both (nat_eq q p) (is_in kept q) (flip a.0) b.0, both qs a.1 b.1)
+      where
+        flip : nat_eq p q ≡ false → nat_eq q p ≡ false
+        flip e = grind (arith, e)
+
+        or-both : (s t : Bool) → s ≡ false → t ≡ false → (s || t) ≡ false
+        or-both true t a b = cc
+        or-both false t a b = b
+
+-- ascending numbers and one more that is none of them differ
+pub apart-rising : (ps : List ℕ) (last : ℕ) → Ascending ps → AllByRecursion (λ p. p ≢ last) ps → IsDistinct nat_eq (ps ++ last ∷ [])
+unfolding IsDistinct
+apart-rising [] last a h = (tt, tt)
+apart-rising (p ∷ ps) last a h = (others ps a.0 h.0, apart-rising ps last a.1 h.1)
+  where
+    others : (qs : List ℕ) → AllByRecursion (λ q. p < q) qs → p ≢ last → AllByRecursion (λ q. nat_eq p q ≡ false) (qs ++ last ∷ [])
+    others [] b ne = (grind (arith, ne), tt)
+    others (q ∷ qs) b ne = (below q b.0, others qs b.1 ne)
+      where
+        below : (r : ℕ) → p < r → nat_eq p r ≡ false
+        below r lt = grind (arith, lt)

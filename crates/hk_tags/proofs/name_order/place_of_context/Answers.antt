@@ -2,7 +2,7 @@ use Rattle.std.proofs.Common.{rules}
 use Rattle.std.proofs.lemmas.List.Sorted.{IsPartitionPoint-from_clause}
 use Rattle.hk_tags.specs.NameOrder.{is_before}
 use Rattle.hk_tags.proofs.Renumbering.{number-found, parted}
-use Rattle.hk_tags.proofs.name_order.place_of.Goals as goal
+use Rattle.hk_tags.proofs.name_order.place_of_context.Goals as goal
 
 pub returns : goal.returns
 returns c =
