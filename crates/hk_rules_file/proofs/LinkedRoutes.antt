@@ -1,5 +1,5 @@
 -- Routes that are read replace no empty text.
-use Rattle.std.proofs.Common.{◌≡◌, ℕ, zero, suc, Bool, true, false, cond, List, [], ◌∷◌, map, Option, Some, None, option_map, nat_lt, refl, sym, ap, ◌∙◌}
+use Rattle.std.proofs.Common.{◌≡◌, ℕ, zero, suc, Bool, true, List, [], ◌∷◌, map, Option, Some, None, option_map, nat_lt, refl, sym, ap, ◌∙◌}
 use Rattle.std.specs.Prelude.{bytes_eq, codes}
 use Rattle.std.specs.List.{AllByRecursion}
 use Rattle.toml.specs.Data.{Data, Items, Members, as_str, as_array, as_table}
@@ -13,8 +13,8 @@ use Rattle.hk_route.specs.declared.route.Route.TheVariants.{rolls-Id, rolls-Exte
 use Rattle.hk_rules_file.specs.Linked.{all_true, has_bytes, has_bytes_by}
 use Rattle.hk_forms.specs.Members.{only, both, two, each, listed, most_members, count_items}
 use Rattle.hk_forms.specs.PatternForm.{pattern_at, most_open}
-use Rattle.hk_forms.specs.RouteForm.{without_dot, some_text, extension_of, gsub_by, gsub_pair, gsub_of, leaf, compose_by, keyed, when_by, use_when, table_by, in_table, named, route_by, route_at, route_of}
-use Rattle.hk_rules_file.proofs.LinkedSteps.{Holds, holds-either, holds-map, holds-each}
+use Rattle.hk_forms.specs.RouteForm.{without_dot, some_text, extension_of, gsub_by, gsub_pair, gsub_of, leaf, compose_by, when_by, table_by, route_by, route_at, route_of}
+use Rattle.hk_rules_file.proofs.LinkedSteps.{Holds, holds-either, holds-each}
 
 abbrev HasBytes : Route → Type 0
 HasBytes route = has_bytes route ≡ true

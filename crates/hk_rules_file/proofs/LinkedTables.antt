@@ -2,7 +2,7 @@
 use Rattle.std.proofs.Common.{◌≡◌, ℕ, ◌+◌, ◌<◌, ◌≤◌, true, false, List, [], ◌∷◌, ◌++◌, length, Option, Some, None, Result, Ok, Err, IfOk, sym, ap, subst, ◌∙◌, arith, Global, String, string_bytes, string_cmp, BTreeMap}
 use Rattle.std.specs.Prelude.{bytes_eq, codes}
 use Rattle.std.specs.BTreeMap.{IsOrdered}
-use Rattle.std.specs.List.{AllByRecursion, IsDistinct}
+use Rattle.std.specs.List.{AllByRecursion, IsDistinct, fold}
 use Rattle.std.specs.List.Sorted.{IsStrictlySortedBy}
 use Rattle.std.specs.Map.{keys_of}
 use Rattle.std.specs.Ordering.{is_eq}
@@ -20,12 +20,12 @@ use Rattle.hk_chain.specs.declared.context.Order.TheVariants.{Id, Recent}
 use Rattle.hk_forms.specs.IdForm.{value_of}
 use Rattle.hk_pattern.specs.declared.pattern.Pattern.{Pattern}
 use Rattle.hk_route.specs.declared.route.Route.{Route}
-use Rattle.hk_rules_file.specs.ContextForm.{names_of, contexts_in}
+use Rattle.hk_rules_file.specs.ContextForm.{FileContext, names_in, listed, names_of, contexts_in}
 use Rattle.hk_rules_file.specs.ContextNames.{keys_in}
 use Rattle.hk_rules_file.specs.FeedForm.{kind_at, email_at, snapshot_at, count_or_ten, limit_at, feed_in, feed_by, feed_of, feeds_from}
 use Rattle.hk_rules_file.specs.Linked.{IsCount, IsRouted, IsLinked, IsLinkedTable, AreTagsLinked, ArePagesLinked, HasLinkedTables}
 use Rattle.hk_rules_file.specs.Linking.{link_steps}
-use Rattle.hk_rules_file.specs.Numbering.{place_of}
+use Rattle.hk_rules_file.specs.Numbering.{place_of, with_name}
 use Rattle.hk_rules_file.specs.PagesForm.{pages_in, pages_by, pages_of, pages_from}
 use Rattle.hk_forms.specs.RouteForm.{route_of}
 use Rattle.hk_rules_file.specs.RuleForm.{optional, first_other, rules_from}
@@ -302,15 +302,19 @@ answer-whole : (P : RulesView → Type 0) → ((rules : RulesView) → IsWhole r
 answer-whole P part wanted (Ok rules) is h = part rules (subst (λ w. IfOk w IsWhole) is h)
 answer-whole P part wanted (Err fault) is h = tt
 
--- what is read of a table and of arrays
-parts-whole : (P : RulesView → Type 0) → ((rules : RulesView) → IsWhole rules → P rules) → (m : BTreeMap (String Global) Value) (rules tags pages feeds : Items) (names : List Bytes) (r : Result RulesView (Refusal RulesFault)) → IsOrdered string_cmp m → names ≡ names_of (table_view m)
-    → Answers (parts_with names (table_view m) rules tags pages feeds) r → IfOk r P
-parts-whole P part m rules tags pages feeds names r ordered are is =
-    answer-whole P part (parts_in (table_view m) rules tags pages feeds) r (subst (λ ns. Answers (parts_with ns (table_view m) rules tags pages feeds) r) are is)
+-- what is read of a table, whose contexts are these, and of arrays
+parts-whole : (P : RulesView → Type 0) → ((rules : RulesView) → IsWhole rules → P rules) → (m : BTreeMap (String Global) Value) (rules tags pages feeds : Items) (contexts : List FileContext) (names : List Bytes) (r : Result RulesView (Refusal RulesFault)) → IsOrdered string_cmp m
+    → contexts ≡ listed (table_view m) → names ≡ fold with_name [] (names_in contexts) → Answers (parts_with names contexts rules tags pages feeds) r → IfOk r P
+parts-whole P part m rules tags pages feeds contexts names r ordered are called is =
+    let same : parts_with names contexts rules tags pages feeds ≡ parts_in (table_view m) rules tags pages feeds =
+    ap (λ ns. parts_with ns contexts rules tags pages feeds) called ∙ ap (λ cs. parts_with (fold with_name [] (names_in cs)) cs rules tags pages feeds) are in
+    answer-whole P part (parts_in (table_view m) rules tags pages feeds) r (subst (λ x. Answers x r) same is)
     (parts_in-whole (table_view m) (keys-distinct m.entries ordered) rules tags pages feeds).is
 
-pub parts-linked : (m : BTreeMap (String Global) Value) (rules tags pages feeds : Items) (names : List Bytes) (r : Result RulesView (Refusal RulesFault)) → IsOrdered string_cmp m → names ≡ names_of (table_view m) → Answers (parts_with names (table_view m) rules tags pages feeds) r → IfOk r IsLinked
+pub parts-linked : (m : BTreeMap (String Global) Value) (rules tags pages feeds : Items) (contexts : List FileContext) (names : List Bytes) (r : Result RulesView (Refusal RulesFault)) → IsOrdered string_cmp m
+    → contexts ≡ listed (table_view m) → names ≡ fold with_name [] (names_in contexts) → Answers (parts_with names contexts rules tags pages feeds) r → IfOk r IsLinked
 parts-linked = parts-whole IsLinked (λ rules is. is.linked)
 
-pub parts-tables : (m : BTreeMap (String Global) Value) (rules tags pages feeds : Items) (names : List Bytes) (r : Result RulesView (Refusal RulesFault)) → IsOrdered string_cmp m → names ≡ names_of (table_view m) → Answers (parts_with names (table_view m) rules tags pages feeds) r → IfOk r HasLinkedTables
+pub parts-tables : (m : BTreeMap (String Global) Value) (rules tags pages feeds : Items) (contexts : List FileContext) (names : List Bytes) (r : Result RulesView (Refusal RulesFault)) → IsOrdered string_cmp m
+    → contexts ≡ listed (table_view m) → names ≡ fold with_name [] (names_in contexts) → Answers (parts_with names contexts rules tags pages feeds) r → IfOk r HasLinkedTables
 parts-tables = parts-whole HasLinkedTables (λ rules is. is.tables)

@@ -1,8 +1,8 @@
 -- The rules and tables before the first bad one are accepted alone.
-use Rattle.std.proofs.Common.{◌≡◌, ℕ, ◌+◌, ◌-◌, Bool, true, false, ◌&&◌, List, [], ◌∷◌, ◌++◌, refl, sym, ap, subst, ◌∙◌, arith, Option, Some, None, is_some, Result, Ok, Err}
+use Rattle.std.proofs.Common.{◌≡◌, ℕ, ◌+◌, Bool, true, false, ◌&&◌, List, [], ◌∷◌, ◌++◌, refl, sym, ap, subst, ◌∙◌, arith, Option, Some, None, is_some, Result, Ok, Err}
 use Rattle.std.specs.Prelude.{codes}
 use Rattle.std.specs.List.{list_any}
-use Rattle.toml.specs.Data.{Data, Items, no_items, item, Members, no_members, member, get_member, as_table}
+use Rattle.toml.specs.Data.{Data, Items, no_items, item, Members, get_member, as_table}
 use Rattle.hk_base.specs.Bytes.{Bytes}
 use Rattle.hk_base.specs.Identifier.{Ident}
 use Rattle.hk_chain.specs.Context.{ContextView}
@@ -12,7 +12,7 @@ use Rattle.hk_forms.specs.Members.{count_items}
 use Rattle.hk_forms.specs.RouteForm.{route_of}
 use Rattle.hk_pattern.specs.declared.pattern.Pattern.{Pattern}
 use Rattle.hk_route.specs.declared.route.Route.{Route}
-use Rattle.hk_rules_file.specs.ContextForm.{in_part, context_of, push_context, one_context, next_context, part_of, default_context, second_part, contexts_in, names_of, most_contexts}
+use Rattle.hk_rules_file.specs.ContextForm.{FileContext, built_in, written, listed, names_of, context_of, context_in, contexts_from, contexts_in}
 use Rattle.hk_rules_file.specs.FeedForm.{feed_by, feed_of, feeds_from}
 use Rattle.hk_rules_file.specs.Linking.{Linked, saves_as, saving, ready_by, apply_step, self_step, link_step, next_step, link_steps}
 use Rattle.hk_rules_file.specs.Numbering.{place_of}
@@ -21,7 +21,7 @@ use Rattle.hk_rules_file.specs.RuleForm.{optional, first_other, is_rule_key, sou
 use Rattle.hk_rules_file.specs.Rules.{RulesView}
 use Rattle.hk_rules_file.specs.RulesForm.{Read, are_tables, parts_in}
 use Rattle.hk_rules_file.specs.Saves.{saved}
-use Rattle.hk_rules_file.specs.TableForm.{and_then, numbered_fault}
+use Rattle.hk_rules_file.specs.TableForm.{required, and_then, numbered_fault}
 use Rattle.hk_rules_file.specs.TagsForm.{tags_by, tags_of, tags_from}
 use Rattle.hk_steps.specs.declared.draft.DraftStep.{DraftStep}
 use Rattle.hk_steps.specs.declared.draft.DraftStep.TheVariants.{Ready, Concat as DraftConcat, Apply as DraftApply, SelfApply as DraftSelf}
@@ -120,35 +120,26 @@ table_numbers : (n : ℕ) (names : List Bytes) (pool : List Pattern) (ms : Optio
 table_numbers n names pool None some = let no_ : ⊥ = cc in absurd no_
 table_numbers n names pool (Some ms) some = rule_numbers n names pool (draft_in n ms) (draft_in_numbers n ms)
 
--- what a fault of contexts has for a number
-push_numbers : (done : List ContextView) (name : Bytes) (r : Option (ContextView × List Pattern)) → ComesFrom of_contexts (push_context done name r)
-push_numbers done name None = refl
-push_numbers done name (Some r) = tt
-
-one_numbers : (in_it : Bool) (names : List Bytes) (room : ℕ) (pool : List Pattern) (done : List ContextView) (name : Bytes) (d : Data) → ComesFrom of_contexts (one_context in_it names room pool done name d)
-one_numbers true names room pool done name d = push_numbers done name (context_of names room pool name d)
-one_numbers false names room pool done name d = tt
-
 abbrev Contexts : Type 0
 Contexts = Result (List ContextView × List Pattern) RulesFault
 
-next_context_numbers : (rest : List Pattern → List ContextView → Contexts) (r : Contexts) → ComesFrom of_contexts r → ((pool : List Pattern) (done : List ContextView) → ComesFrom of_contexts (rest pool done)) → ComesFrom of_contexts (next_context rest r)
-next_context_numbers rest (Ok r) h inner = inner r.1 r.0
-next_context_numbers rest (Err fault) h inner = h
+-- a fault of contexts has no number
+bad_numbers : (name : Bytes) (r : Option (ContextView × List Pattern)) → ComesFrom of_contexts (required (BadContext name) r)
+bad_numbers name None = refl
+bad_numbers name (Some r) = tt
 
-part_numbers : (early : Bool) (names : List Bytes) (ms : Members) (room : ℕ) (pool : List Pattern) (done : List ContextView) → ComesFrom of_contexts (part_of early names ms room pool done)
-part_numbers early names no_members room pool done = tt
-part_numbers early names (member name d ms) room pool done =
-    next_context_numbers (part_of early names ms (room - 1)) (one_context (in_part early name) names room pool done name d) (one_numbers (in_part early name) names room pool done name d)
-    (λ pool' done'. part_numbers early names ms (room - 1) pool' done')
+context_numbers : (names : List Bytes) (pool : List Pattern) (c : FileContext) → ComesFrom of_contexts (context_in names pool c)
+context_numbers names pool built_in = tt
+context_numbers names pool (written name room d) = bad_numbers name (context_of names room pool name d)
 
-second_numbers : (names : List Bytes) (ms : Members) (r : Contexts) → ComesFrom of_contexts r → ComesFrom of_contexts (second_part names ms r)
-second_numbers names ms (Ok r) h = part_numbers false names ms most_contexts r.1 (r.0 ++ default_context ∷ [])
-second_numbers names ms (Err fault) h = h
+next_context_numbers : (next : ContextView × List Pattern → Contexts) (r : Result (ContextView × List Pattern) RulesFault) → ComesFrom of_contexts r → ((one : ContextView × List Pattern) → ComesFrom of_contexts (next one)) → ComesFrom of_contexts (and_then r next)
+next_context_numbers next (Ok one) h inner = inner one
+next_context_numbers next (Err fault) h inner = h
 
-contexts_numbers : (names : List Bytes) (ms : Members) → ComesFrom of_contexts (contexts_in names ms)
-unfolding contexts_in
-contexts_numbers names ms = second_numbers names ms (part_of true names ms most_contexts [] []) (part_numbers true names ms most_contexts [] [])
+contexts_numbers : (names : List Bytes) (cs : List FileContext) (pool : List Pattern) (done : List ContextView) → ComesFrom of_contexts (contexts_from names cs pool done)
+contexts_numbers names [] pool done = tt
+contexts_numbers names (c ∷ cs) pool done =
+    next_context_numbers (λ one. contexts_from names cs one.1 (done ++ one.0 ∷ [])) (context_in names pool c) (context_numbers names pool c) (λ one. contexts_numbers names cs one.1 (done ++ one.0 ∷ []))
 
 -- ---- the first bad one of a list
 
@@ -505,4 +496,4 @@ module _ (ms : Members) (rules tags pages feeds : Items) where
     parts_first (Err other) ec from e = let is : other ≡ fault = err_of other fault e in tells_contexts fault (sym (ap origin_of is) ∙ from)
 
 pub numbers_tell_rules : NumbersTellRules
-numbers_tell_rules ms rules tags pages feeds fault are e = parts_first ms rules tags pages feeds are fault (contexts_in (names_of ms) ms) refl (contexts_numbers (names_of ms) ms) e
+numbers_tell_rules ms rules tags pages feeds fault are e = parts_first ms rules tags pages feeds are fault (contexts_in (names_of ms) ms) refl (contexts_numbers (names_of ms) (listed ms) [] []) e

@@ -1,6 +1,7 @@
 pub mod ContextForm
 pub mod ContextNames
 pub mod FeedForm
+pub mod FileEntries
 pub mod Linked
 pub mod Linking
 pub mod Numbering

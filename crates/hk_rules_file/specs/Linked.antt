@@ -1,5 +1,5 @@
 -- Rules whose numbers are in range, whose names differ, and whose texts are of their form.
-use Rattle.std.specs.Prelude.{ℕ, ◌<◌, ◌≤◌, ◌≡◌, Bool, true, false, List, [], ◌∷◌, length, map, Option, Some, None, IfSome, bytes_eq}
+use Rattle.std.specs.Prelude.{ℕ, ◌<◌, ◌≤◌, ◌≡◌, Bool, true, false, List, [], length, map, Option, IfSome, bytes_eq}
 use Rattle.std.specs.List.{AllByRecursion, IsDistinct, list_all}
 use Rattle.hk_base.specs.Bytes.{Bytes}
 use Rattle.hk_chain.specs.Context.{ContextView}
@@ -15,7 +15,6 @@ use Rattle.hk_route.specs.declared.route.Route.TheOpen.{Route-F}
 use Rattle.hk_rules_file.specs.Numbering.{texts_of}
 use Rattle.hk_rules_file.specs.Rules.{RulesView}
 use Rattle.hk_rules_file.specs.Saves.{saves, page_names}
-use Rattle.hk_rules_file.specs.declared.rules.Rule.{Rule}
 use Rattle.hk_rules_file.specs.declared.tables.PageRule.{PageRule}
 use Rattle.hk_rules_file.specs.declared.tables.TagRule.{TagRule}
 

@@ -8,7 +8,7 @@ use Rattle.hk_chain.specs.Context.{ContextView}
 use Rattle.hk_pattern.specs.declared.pattern.Pattern.{Pattern}
 use Rattle.hk_rules_file.specs.Rules.{RulesView}
 use Rattle.hk_forms.specs.Members.{count_items}
-use Rattle.hk_rules_file.specs.ContextForm.{names_of, contexts_in}
+use Rattle.hk_rules_file.specs.ContextForm.{FileContext, listed, names_of, contexts_from}
 use Rattle.hk_rules_file.specs.FeedForm.{feeds_from}
 use Rattle.hk_rules_file.specs.PagesForm.{pages_from}
 use Rattle.hk_rules_file.specs.RuleForm.{first_other, rules_from}
@@ -61,9 +61,9 @@ abbrev pub whole : List ContextView → List Rule → List TagRule → List Page
 whole contexts rules tags p feeds = Ok (record { rules = rules; contexts = contexts; patterns = p.1; tags = tags; pages = p.0; feeds = feeds })
 
 -- the contexts, the rules, the tables for tags, those for pages and the feeds, in this order, or the first fault
-abbrev pub parts_with : List Bytes → Members → Items → Items → Items → Items → Read
+abbrev pub parts_with : List Bytes → List FileContext → Items → Items → Items → Items → Read
 parts_with names contexts rules tags pages feeds =
-    and_then (contexts_in names contexts) (λ c.
+    and_then (contexts_from names contexts [] []) (λ c.
     and_then (rules_from names rules 1 c.1 []) (λ r.
     and_then (tags_from names tags 1 r.1 []) (λ t.
     and_then (pages_from names pages 1 t.1 []) (λ p.
@@ -71,7 +71,7 @@ parts_with names contexts rules tags pages feeds =
     whole c.0 r.0 t.0 p f)))))
 
 abbrev pub parts_in : Members → Items → Items → Items → Items → Read
-parts_in contexts rules tags pages feeds = parts_with (names_of contexts) contexts rules tags pages feeds
+parts_in contexts rules tags pages feeds = parts_with (names_of contexts) (listed contexts) rules tags pages feeds
 
 -- the rules are counted first
 abbrev pub unless_many : Bool → Members → Items → Items → Items → Items → Read

@@ -1,10 +1,13 @@
 // The contexts of a file, with the one that is built in at its place.
-ghost use Rattle.std.specs.Prelude.{◌≡◌, IfOk};
+ghost use Rattle.std.specs.Prelude.{◌≡◌, [], IfOk, Ok};
 ghost use Rattle.std.specs.Ordering.{nat_cmp, is_lt};
 ghost use Rattle.std.specs.Cmp.Lexicographic.{slice_cmp};
+ghost use Rattle.std.specs.List.{fold};
 ghost use Rattle.toml.specs.View.{view, table_view};
 ghost use Rattle.hk_base.specs.Answers.{Answers};
 ghost use Rattle.hk_rules_file.specs.ContextForm as spec;
+ghost use Rattle.hk_rules_file.specs.FileEntries.{context_at, contexts_at};
+ghost use Rattle.hk_rules_file.specs.Numbering.{with_name};
 
 use crate::fault::RulesFault;
 use crate::field_linking::{link_fields, with_defaults};
@@ -17,46 +20,41 @@ use std::alloc::Global;
 use std::cmp::Ordering;
 use toml::{Table, Value};
 
-/// How many contexts a file may have.
+/// How many contexts a file may write.
 const MOST_CONTEXTS: usize = 256;
 
-/// The names of all contexts in order. `n log n` comparisons of names.
-#[tactic(auto, unfolding(crate::specs::ContextForm::names_of))]
-pub(crate) fn names_of(alloc: Global, table: &Table) -> Result<Names, NoMemory>
-    ensures { IfOk result (λ r. r ≡ spec.names_of (table_view table.now)) }
-{
-    let early = with_names(alloc, true, table, Names::new(alloc))?;
-    let names = early.with(alloc, b"default")?;
-    with_names(alloc, false, table, names)
+/// A context of a file: the one that is built in, or one that is written under a name, where so many more may stand.
+#[derive(Clone, Copy, Drop)]
+pub(crate) enum Entry<'a> {
+    BuiltIn,
+    Written {
+        name: &'a str,
+        room: usize,
+        value: &'a Value,
+    },
 }
 
-fn with_names(alloc: Global, early: bool, table: &Table, names: Names) -> Result<Names, NoMemory>
-    ensures { IfOk result (λ r. r ≡ spec.with_names early (table_view table.now) names) }
+/// All contexts in the order of their names. Linear in the table.
+#[tactic(auto, unfolding(crate::specs::ContextForm::listed))]
+pub(crate) fn listed(alloc: Global, table: &Table) -> Result<Vec<Entry<'_>>, NoMemory>
+    ensures { IfOk result (λ entries. contexts_at entries.items ≡ spec.listed (table_view table.now)) }
 {
-    let mut names = names;
-    for (name, _value) in table.iter() {
-        names = with_part(alloc, early, names, name.as_str())?;
+    let mut entries = Vec::new(alloc);
+    let mut waits = true;
+    let mut room = MOST_CONTEXTS;
+    for (name, value) in table.iter() {
+        let name = name.as_str();
+        if waits && !is_early(name.as_bytes()) {
+            entries.push(Entry::BuiltIn)?;
+            waits = false;
+        }
+        entries.push(Entry::Written { name, room, value })?;
+        room = room.saturating_sub(1);
     }
-    Ok(names)
-}
-
-fn with_part(alloc: Global, early: bool, names: Names, name: &str) -> Result<Names, NoMemory>
-    ensures { IfOk result (λ r. r ≡ spec.with_part early names name.now) }
-{
-    if in_part(early, name.as_bytes()) {
-        return names.with(alloc, name.as_bytes());
+    if waits {
+        entries.push(Entry::BuiltIn)?;
     }
-    Ok(names)
-}
-
-fn in_part(early: bool, name: &[u8]) -> bool
-    ensures { result ≡ spec.in_part early name.now }
-{
-    if early {
-        is_early(name)
-    } else {
-        !is_early(name)
-    }
+    Ok(entries)
 }
 
 #[tactic(auto, unfolding(crate::specs::ContextForm::is_early))]
@@ -75,20 +73,59 @@ fn is_before(name: &[u8], other: &[u8]) -> bool
     }
 }
 
-/// The contexts in the order of their names, and the patterns that they use. Linear in the table, but for the look-ups
-/// of names and patterns.
-#[tactic(auto, unfolding(crate::specs::ContextForm::contexts_in))]
-pub(crate) fn contexts_in(
+/// The names of the contexts in order, each once. `n log n` comparisons of names.
+pub(crate) fn names_of(alloc: Global, entries: &[Entry<'_>]) -> Result<Names, NoMemory>
+    ensures { IfOk result (λ names. names ≡ fold with_name [] (spec.names_in (contexts_at entries.now))) }
+{
+    let mut names = Names::new(alloc);
+    for entry in entries {
+        names = names.with(alloc, name_in(entry))?;
+    }
+    Ok(names)
+}
+
+fn name_in<'a>(entry: &Entry<'a>) -> &'a [u8]
+    ensures { result.now ≡ spec.name_in (context_at entry.now) }
+{
+    match *entry {
+        Entry::BuiltIn => b"default",
+        Entry::Written { name, .. } => name.as_bytes(),
+    }
+}
+
+/// The contexts as they are read, and the patterns that they use. Linear in the table, but for the look-ups of names and
+/// patterns.
+pub(crate) fn contexts_from(
     alloc: Global,
     names: &Names,
-    table: &Table,
+    entries: &[Entry<'_>],
 ) -> Result<(Drafts<Context>, Pool), Refusal<RulesFault>>
-    ensures { Answers (spec.contexts_in names.now (table_view table.now)) result }
+    ensures { Answers (spec.contexts_from names.now (contexts_at entries.now) [] []) result }
 {
-    let none = Drafts::new(alloc);
-    let (mut contexts, pool) = part_of(alloc, true, names, table, Pool::new(alloc), none)?;
-    contexts.push(default_context(alloc)?)?;
-    part_of(alloc, false, names, table, pool, contexts)
+    let mut pool = Pool::new(alloc);
+    let mut contexts = Drafts::new(alloc);
+    for entry in entries {
+        let (context, next) = context_in(alloc, names, pool, entry)?;
+        contexts.push(context)?;
+        pool = next;
+    }
+    Ok((contexts, pool))
+}
+
+fn context_in(
+    alloc: Global,
+    names: &Names,
+    pool: Pool,
+    entry: &Entry<'_>,
+) -> Result<(Context, Pool), Refusal<RulesFault>>
+    ensures { Answers (spec.context_in names.now pool (context_at entry.now)) result }
+{
+    match *entry {
+        Entry::BuiltIn => Ok((default_context(alloc)?, pool)),
+        Entry::Written { name, room, value } => {
+            written_context(alloc, names, pool, name, room, value)
+        }
+    }
 }
 
 fn default_context(alloc: Global) -> Result<Context, NoMemory>
@@ -99,51 +136,18 @@ fn default_context(alloc: Global) -> Result<Context, NoMemory>
     Ok(Context { name, fields })
 }
 
-fn part_of(
+fn written_context(
     alloc: Global,
-    early: bool,
     names: &Names,
-    table: &Table,
     pool: Pool,
-    done: Drafts<Context>,
-) -> Result<(Drafts<Context>, Pool), Refusal<RulesFault>>
-    ensures { Answers (spec.part_of early names.now (table_view table.now) spec.most_contexts pool done) result }
-{
-    let mut pool = pool;
-    let mut done = done;
-    let mut room = MOST_CONTEXTS;
-    for (name, value) in table.iter() {
-        let name = name.as_str();
-        let within = in_part(early, name.as_bytes());
-        let (more, next) = one_context(alloc, within, names, room, pool, done, name, value)?;
-        done = more;
-        pool = next;
-        room = room.saturating_sub(1);
-    }
-    Ok((done, pool))
-}
-
-fn one_context(
-    alloc: Global,
-    within: bool,
-    names: &Names,
-    room: usize,
-    pool: Pool,
-    done: Drafts<Context>,
     name: &str,
+    room: usize,
     value: &Value,
-) -> Result<(Drafts<Context>, Pool), Refusal<RulesFault>>
-    ensures { Answers (spec.one_context within names.now room pool done name.now (view value.now)) result }
+) -> Result<(Context, Pool), Refusal<RulesFault>>
+    ensures { Answers (spec.context_in names.now pool (spec.written name.now room (view value.now))) result }
 {
-    if !within {
-        return Ok((done, pool));
-    }
-    let mut done = done;
     match context_of(alloc, names, room, pool, name, value)? {
-        Some((context, next)) => {
-            done.push(context)?;
-            Ok((done, next))
-        }
+        Some(read) => Ok(read),
         None => {
             let name = Text::from_slice(alloc, name.as_bytes())?;
             Err(Refusal::Fault(RulesFault::BadContext { name }))

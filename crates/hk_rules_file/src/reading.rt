@@ -4,11 +4,12 @@ ghost use Rattle.toml.specs.Data.{no_members};
 ghost use Rattle.toml.specs.View.{view, table_view, items_view};
 ghost use Rattle.hk_base.specs.Answers.{Answers};
 ghost use Rattle.hk_forms.specs.Members as members;
+ghost use Rattle.hk_rules_file.specs.FileEntries.{contexts_at};
 ghost use Rattle.hk_rules_file.specs.Linked.{IsLinked, HasLinkedTables};
 ghost use Rattle.hk_rules_file.specs.RuleForm as rule_form;
 ghost use Rattle.hk_rules_file.specs.RulesForm as spec;
 
-use crate::context_form::{contexts_in, names_of};
+use crate::context_form::{Entry, contexts_from, listed, names_of};
 use crate::fault::RulesFault;
 use crate::feed_form::feeds_from;
 use crate::numbering::Names;
@@ -267,24 +268,25 @@ fn parts_in(
 {
     // the keys of a table differ
     let _count = contexts.len();
-    let names = names_of(alloc, contexts)?;
-    parts_with(alloc, &names, contexts, rules, tags, pages, feeds)
+    let contexts = listed(alloc, contexts)?;
+    let names = names_of(alloc, &contexts)?;
+    parts_with(alloc, &names, &contexts, rules, tags, pages, feeds)
 }
 
 fn parts_with(
     alloc: Global,
     names: &Names,
-    contexts: &Table,
+    contexts: &[Entry<'_>],
     rules: &[Value],
     tags: &[Value],
     pages: &[Value],
     feeds: &[Value],
 ) -> Result<Rules, Refusal<RulesFault>>
     requires { length rules.now ≤ 1024 }
-    ensures { Answers (spec.parts_with names.now (table_view contexts.now) (items_view rules.now) (items_view tags.now)
+    ensures { Answers (spec.parts_with names.now (contexts_at contexts.now) (items_view rules.now) (items_view tags.now)
         (items_view pages.now) (items_view feeds.now)) result }
 {
-    let (contexts, pool) = contexts_in(alloc, names, contexts)?;
+    let (contexts, pool) = contexts_from(alloc, names, contexts)?;
     let (rules, pool) = rules_from(alloc, names, pool, rules)?;
     let (tags, pool) = tags_from(alloc, names, pool, tags)?;
     let (pages, pool) = pages_from(alloc, names, pool, pages)?;
