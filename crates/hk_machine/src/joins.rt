@@ -1,8 +1,8 @@
 // The bodies of several items' pages, one after another.
-ghost use Rattle.std.specs.Prelude.{◌≡◌, ◌++◌, length, map, true, IfOk};
+ghost use Rattle.std.specs.Prelude.{◌≡◌, ◌++◌, is_some, length, map, true, IfOk};
 ghost use Rattle.hk_eval.specs.Asking.{other_kind, is_text as is_text_kind};
 ghost use Rattle.hk_eval.specs.Groups.{told_page};
-ghost use Rattle.hk_eval.specs.Told.{told_pages};
+ghost use Rattle.hk_eval.specs.Told.{told_pages, AllTold};
 ghost use Rattle.hk_machine.specs.Groups.{joined_of, joining_of};
 
 use hk_base::NoMemory;
@@ -18,14 +18,15 @@ pub(crate) enum Joined {
     Other(ItemNo),
 }
 
-/// The bodies of the items' pages, one after another. Linear in the bodies, and logarithmic for each page.
+/// The bodies of the items' pages, which are told, one after another. Linear in the bodies, and logarithmic for each page.
 pub(crate) fn join(
     alloc: Global,
     told: &Told,
     items: &[ItemNo],
     pairs: &[PairNo],
 ) -> Result<Joined, NoMemory>
-    requires { length items.now ≡ length pairs.now }
+    requires same { length items.now ≡ length pairs.now }
+    requires told { AllTold (told_pages told.now) pairs.now }
     ensures { IfOk result (λ j. let pages = map (told_page (told_pages told.now)) pairs.now in joining_of j ≡ joined_of pages (other_kind items.now pages)) }
 {
     let mut bytes = Vec::new(alloc);
@@ -39,11 +40,12 @@ pub(crate) fn join(
 
 /// Appends the body of a pair's page, if that is text.
 fn append(bytes: &mut Vec<u8>, told: &Told, pair: PairNo) -> Result<bool, NoMemory>
+    requires { is_some (told_pages told.now pair) ≡ true }
     ensures text { IfOk result (λ b. b ≡ is_text_kind (told_page (told_pages told.now) pair).kind) }
     ensures body { IfOk result (λ b. b ≡ true → bytes.new.items ≡ bytes.old.items ++ (told_page (told_pages told.now) pair).body) }
 {
     let Some(page) = told.get(pair) else {
-        return Ok(true);
+        unreachable!()
     };
     if !is_text(page.get()) {
         return Ok(false);

@@ -11,8 +11,14 @@ use Rattle.hk_workers.specs.declared.rounds.Slot.{Slot}
 use Rattle.hk_workers.specs.declared.rounds.Slot.TheVariants as slot
 
 module _ {C : Type 0} (run : C → ℕ → Pages → Run Page) (shape : C → Shape) {X : Type 0} (meaning : X → Meaning C) where
-  -- a lawful turn, or a lawful compiler that was polled
-  abbrev pub IsSlot : Key C → Slot X → Type 0
-  IsSlot key (slot.Ready t) = IsTurnFor run shape meaning key t
-  IsSlot key (slot.Polled x p) = HasPolled run shape key p (meaning x)
-  IsSlot key slot.NoMemory = Unit {0}
+  -- a lawful turn, whose compiler is to be polled
+  abbrev pub IsReadySlot : Key C → Slot X → Type 0
+  IsReadySlot key (slot.Ready t) = IsTurnFor run shape meaning key t
+  IsReadySlot key (slot.Polled x p) = ⊥
+  IsReadySlot key slot.NoMemory = ⊥
+
+  -- a lawful compiler that was polled, or memory was wanting
+  abbrev pub IsPolledSlot : Key C → Slot X → Type 0
+  IsPolledSlot key (slot.Ready t) = ⊥
+  IsPolledSlot key (slot.Polled x p) = HasPolled run shape key p (meaning x)
+  IsPolledSlot key slot.NoMemory = Unit {0}

@@ -64,7 +64,7 @@ fn thieves_of<M: Compiler>(
     let mut step = 1;
     while step < owners.len() {
         let at = place_after(me, step, owners.len());
-        add_thief(alloc, about, owners, at, &mut thieves)?;
+        thieves.push_reserved(thief_at(alloc, about, owners, at)?);
         step += 1;
     }
     Ok(thieves)
@@ -83,23 +83,19 @@ fn place_after(me: usize, steps: usize, count: usize) -> usize
     }
 }
 
-/// A thief of the deque at this place comes to the others.
-fn add_thief<M: Compiler>(
+/// A thief of the deque at this place.
+fn thief_at<M: Compiler>(
     alloc: Global,
     about: &Snapshot<Key<M>>,
     owners: &mut Vec<Owner<M>>,
     at: usize,
-    thieves: &mut Vec<Thief<M>>,
-) -> Result<(), NoMemory>
-    requires owners { (at < length owners.old.items) × All (λ o. o.key ≡ Some about.now.value) owners.old.items }
-    requires thieves { All (λ t. t.key ≡ Some about.now.value) thieves.old.items }
+) -> Result<Thief<M>, NoMemory>
+    requires { (at < length owners.old.items) × All (λ o. o.key ≡ Some about.now.value) owners.old.items }
     ensures owners { owners.new.items ≡ owners.old.items }
-    ensures thieves { IfOk result (λ _. All (λ t. t.key ≡ Some about.now.value) thieves.new.items) }
+    ensures thief { IfOk result (λ t. t.key ≡ Some about.now.value) }
 {
     let _about = about;
-    let thief = owners[at].thief(alloc)?;
-    thieves.push(thief)?;
-    Ok(())
+    Ok(owners[at].thief(alloc)?)
 }
 
 /// A seat for each owner, with its thieves.

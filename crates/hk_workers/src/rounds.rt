@@ -3,8 +3,8 @@ ghost use Rattle.std.specs.Prelude.{◌≡◌, ◌<◌, ◌≤◌, Some, IfOk, A
 ghost use Rattle.hk_chain.specs.Kept.{IsKept};
 ghost use Rattle.hk_fix.specs.Fix.{seeds_of};
 ghost use Rattle.hk_sched.specs.Lawful.{IsRunOf};
-ghost use Rattle.hk_workers.specs.Working.{IsBoardFor, HasCommon};
-ghost use Rattle.hk_workers.specs.Rounds.{IsSlot};
+ghost use Rattle.hk_workers.specs.Working.{IsBoardFor, IsTurnFor, HasCommon};
+ghost use Rattle.hk_workers.specs.Rounds.{IsReadySlot, IsPolledSlot};
 
 use crate::key::Key;
 use crate::step::{Next, begin, next_turn, poll, put_turn_back, settle};
@@ -91,7 +91,7 @@ fn collect<M: Compiler>(
 ) -> Result<Vec<Slot<M>>, NoMemory>
     requires { IsBoardFor M.run M.shape M.meaning about.now.value board.old }
     ensures board { IsBoardFor M.run M.shape M.meaning about.now.value board.new }
-    ensures slots { IfOk result (λ v. All (IsSlot M.run M.shape M.meaning about.now.value) v.items) }
+    ensures slots { IfOk result (λ v. All (IsReadySlot M.run M.shape M.meaning about.now.value) v.items) }
 {
     let mut slots = Vec::new(alloc);
     for _ in 0..u64::MAX {
@@ -115,39 +115,38 @@ fn poll_all<K: Maker + Sync, R: Threads + Sync>(
 where
     K::M: Send,
     <K::M as Compiler>::Common: Send,
-    requires slots { All (IsSlot K.M.run K.M.shape K.M.meaning about.now.value) slots.old }
+    requires slots { All (IsReadySlot K.M.run K.M.shape K.M.meaning about.now.value) slots.old }
     requires common { HasCommon about.now.value (K.common_is maker.now) }
     requires workers { 0 < workers }
-    ensures { All (IsSlot K.M.run K.M.shape K.M.meaning about.now.value) slots.new }
+    ensures { All (IsPolledSlot K.M.run K.M.shape K.M.meaning about.now.value) slots.new }
 {
     thread::for_each_mut(
         rt,
         slots,
         workers,
         &|_at: usize, slot: &mut Slot<K::M>|
-            requires { IsSlot K.M.run K.M.shape K.M.meaning about.now.value slot.now × HasCommon about.now.value (K.common_is maker.now) }
-            ensures { IsSlot K.M.run K.M.shape K.M.meaning about.entry.now.value slot.exit.now }
+            requires { IsReadySlot K.M.run K.M.shape K.M.meaning about.now.value slot.now × HasCommon about.now.value (K.common_is maker.now) }
+            ensures { IsPolledSlot K.M.run K.M.shape K.M.meaning about.entry.now.value slot.exit.now }
         {
-            let ready = replace(slot, Slot::NoMemory);
-            *slot = polled_slot(alloc, about, ready, maker);
+            let Slot::Ready(turn) = replace(slot, Slot::NoMemory) else {
+                unreachable!()
+            };
+            *slot = polled_slot(alloc, about, turn, maker);
         },
     );
 }
 
-/// A slot once its compiler was polled.
+/// The slot of a turn once its compiler was polled.
 fn polled_slot<K: Maker>(
     alloc: Global,
     about: &Snapshot<Key<K::M>>,
-    slot: Slot<K::M>,
+    turn: Turn<K::M>,
     maker: &K,
 ) -> Slot<K::M>
-    requires slot { IsSlot K.M.run K.M.shape K.M.meaning about.now.value slot }
+    requires turn { IsTurnFor K.M.run K.M.shape K.M.meaning about.now.value turn }
     requires common { HasCommon about.now.value (K.common_is maker.now) }
-    ensures { IsSlot K.M.run K.M.shape K.M.meaning about.now.value result }
+    ensures { IsPolledSlot K.M.run K.M.shape K.M.meaning about.now.value result }
 {
-    let Slot::Ready(turn) = slot else {
-        return slot;
-    };
     let Ok(mut machine) = begin(alloc, about, turn, maker) else {
         return Slot::NoMemory;
     };
@@ -165,7 +164,7 @@ fn hand_over<M: Compiler>(
     slots: Vec<Slot<M>>,
 ) -> Result<(), NoMemory>
     requires board { IsBoardFor M.run M.shape M.meaning about.now.value board.old }
-    requires slots { All (IsSlot M.run M.shape M.meaning about.now.value) slots.items }
+    requires slots { All (IsPolledSlot M.run M.shape M.meaning about.now.value) slots.items }
     ensures { IsBoardFor M.run M.shape M.meaning about.now.value board.new }
 {
     for slot in slots {
@@ -181,17 +180,17 @@ fn hand_one<M: Compiler>(
     slot: Slot<M>,
 ) -> Result<(), NoMemory>
     requires board { IsBoardFor M.run M.shape M.meaning about.now.value board.old }
-    requires slot { IsSlot M.run M.shape M.meaning about.now.value slot }
+    requires slot { IsPolledSlot M.run M.shape M.meaning about.now.value slot }
     ensures { IsBoardFor M.run M.shape M.meaning about.now.value board.new }
 {
     match slot {
-        Slot::Ready(turn) => put_turn_back(about, board, turn),
         Slot::Polled(machine, polled) => match settle(about, board, machine, polled) {
             Next::On(back) => put_turn_back(about, board, Turn::Woken(back)),
             Next::NoMemory(_) => return Err(NoMemory),
             _ => {}
         },
         Slot::NoMemory => return Err(NoMemory),
+        Slot::Ready(_) => unreachable!(),
     }
     Ok(())
 }

@@ -171,7 +171,7 @@ fn gather_owners<M: Compiler>(
     let mut memory = true;
     while let Some(end) = ends.pop() {
         let had = end.memory;
-        owners.push(unseat(lock, about, seat, end))?;
+        owners.push_reserved(unseat(lock, about, seat, end));
         memory = memory && had;
     }
     Ok((owners, memory))

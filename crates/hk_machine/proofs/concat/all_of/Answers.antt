@@ -10,7 +10,7 @@ use Rattle.hk_eval.specs.Groups.{told_page}
 use Rattle.hk_machine.specs.Chain.{joined_pages}
 use Rattle.hk_machine.specs.Groups.{joining_of, joined_of}
 use Rattle.hk_eval.specs.Told.{told_pages}
-use Rattle.hk_eval.proofs.Grouping.{other-in, empty-list}
+use Rattle.hk_eval.proofs.Grouping.{other-in, empty-list, told-all}
 use Rattle.hk_machine.proofs.Grouping.{concat-quiet, concat-waits, concat-given, concat-fails, other-is}
 use Rattle.hk_machine.proofs.concat.all_of.Goals as goal
 
@@ -49,3 +49,8 @@ returns-clause-acts c = λ page.
       concat-quiet (lookups c.args.plan.now) k c.args.pattern c.args.items.now c.args.pairs.now,
       concat-fails (lookups c.args.plan.now) k c.args.pattern c.args.items.now c.args.pairs.now none c.in-Other.item join ∙ ap (λ id. fault (WrongKind id)) (sym (c.in_ok-copy-in-Other.ensures ∙ c.id.ensures)),
     )
+
+pub join-requires-clause-told : goal.join-requires-clause-told
+join-requires-clause-told c =
+    let z : length c.in_ok-lacks.lacks.items ≡ 0 = grind arith in
+    told-all (told_pages c.args.told.now) c.args.pairs.now (sym c.in_ok-lacks.ensures ∙ empty-list c.in_ok-lacks.lacks.items z)

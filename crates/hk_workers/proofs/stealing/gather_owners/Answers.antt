@@ -1,5 +1,5 @@
-use Rattle.std.proofs.Common.{rules, ◌≡◌, Some}
-use Rattle.std.proofs.lemmas.List.Elements.{All-pop}
+use Rattle.std.proofs.Common.{rules, ◌≡◌, Some, All, sym, subst}
+use Rattle.std.proofs.lemmas.List.Elements.{All-push, All-pop}
 use Rattle.hk_lock.specs.View.{IsSeatFor}
 use Rattle.hk_sched.specs.Lawful.{Key}
 use Rattle.hk_steal.specs.View.{OwnerView}
@@ -14,6 +14,7 @@ loop-end-preserved-then-memory g c =
       search rules,
       search rules,
       (All-pop S _ _ _ c.pop.ensures.items inv.2).0,
+      subst (All O) (sym c.push_reserved.ensures.items) (All-push O _ _ inv.3 c.unseat.ensures.owner),
       search rules,
     )
 
@@ -25,5 +26,6 @@ loop-end-preserved g c =
       search rules,
       search rules,
       (All-pop S _ _ _ c.pop.ensures.items inv.2).0,
+      subst (All O) (sym c.push_reserved.ensures.items) (All-push O _ _ inv.3 c.unseat.ensures.owner),
       search rules,
     )
