@@ -1,7 +1,7 @@
 -- In a whole rules file patterns are numbered in the order of their first use.
-use Rattle.std.proofs.Common.{◌≡◌, ℕ, ◌+◌, ◌-◌, Bool, true, false, nat_lt, List, [], ◌∷◌, ◌++◌, length, refl, ap, subst, Option, Some, None, is_some, Result, Ok, Err, codes, if◌then◌else◌}
+use Rattle.std.proofs.Common.{◌≡◌, ℕ, ◌+◌, Bool, true, false, nat_lt, List, [], ◌∷◌, ◌++◌, length, refl, ap, subst, Option, Some, None, is_some, Result, Ok, Err, codes, if◌then◌else◌}
 use Rattle.std.specs.List.{AllByRecursion, flat_map}
-use Rattle.toml.specs.Data.{Data, Items, no_items, item, Members, no_members, member, get_member, as_table}
+use Rattle.toml.specs.Data.{Data, Items, no_items, item, Members, get_member, as_table}
 use Rattle.hk_base.specs.Bytes.{Bytes}
 use Rattle.hk_chain.specs.Context.{ContextView}
 use Rattle.hk_chain.specs.declared.chain.Step.{Step}
@@ -13,7 +13,7 @@ use Rattle.hk_forms.specs.Members.{count_items}
 use Rattle.hk_pattern.specs.declared.pattern.Pattern.{Pattern}
 use Rattle.hk_rules_file.proofs.LinkedFields.{IsReadyField, fields-ready}
 use Rattle.hk_rules_file.proofs.LinkedSteps.{Holds, IsReady, chain-ready}
-use Rattle.hk_rules_file.specs.ContextForm.{in_part, may_define, named, linked, context_of, push_context, one_context, next_context, part_of, default_context, second_part, most_contexts, names_of, contexts_in}
+use Rattle.hk_rules_file.specs.ContextForm.{FileContext, built_in, written, listed, names_of, may_define, named, linked, context_of, default_context, context_in, contexts_from}
 use Rattle.hk_rules_file.specs.FeedForm.{feeds_from}
 use Rattle.hk_rules_file.specs.Linking.{link_steps, link_fields}
 use Rattle.hk_rules_file.specs.PagesForm.{whole as pages_whole, pages_in, pages_by, pages_of, pages_from}
@@ -23,7 +23,7 @@ use Rattle.hk_rules_file.specs.RulesForm.{most_rules, contexts_at, tables_at, is
 use Rattle.hk_rules_file.specs.TableForm.{required, and_then, pattern_at, text_at, count_at, order_at, route_at, context_at, numbered_steps, chain_at, unless}
 use Rattle.hk_rules_file.specs.TagsForm.{whole as tags_whole, field_at, tags_in, tags_by, tags_of, tags_from}
 use Rattle.hk_rules_file.specs.declared.fault.RulesFault.{RulesFault}
-use Rattle.hk_rules_file.specs.declared.fault.RulesFault.TheVariants.{TooLong, BadTags, BadPaginate}
+use Rattle.hk_rules_file.specs.declared.fault.RulesFault.TheVariants.{TooLong, BadContext, BadTags, BadPaginate}
 use Rattle.hk_rules_file.specs.declared.rules.Rule.{Rule}
 use Rattle.hk_rules_file.specs.declared.rules.RuleSource.{RuleSource}
 use Rattle.hk_rules_file.specs.declared.tables.PageRule.{PageRule}
@@ -203,47 +203,24 @@ context_uses names room pool name d r e = go (may_define room name) e
     go false e = let no_ : ⊥ = cc in absurd no_
     go true e = named_uses names pool name (context_fields d) r (fields-ready d) e
 
-abbrev Contexts : Type 0
-Contexts = List ContextView × List Pattern
+one_uses : (names : List Bytes) (pool : List Pattern) (c : FileContext) (r : ContextView × List Pattern) → context_in names pool c ≡ Ok r → Uses in_context pool r
+one_uses names pool built_in r e = let is : (default_context, pool) ≡ r = cc in subst (Uses in_context pool) is refl
+one_uses names pool (written name room d) r e = context_uses names room pool name d r (required_is (BadContext name) (context_of names room pool name d) r e)
 
-one_uses : (in_it : Bool) (names : List Bytes) (room : ℕ) (pool : List Pattern) (done : List ContextView) (name : Bytes) (d : Data) (r : Contexts) → AllUses in_context 0 (done, pool)
-    → one_context in_it names room pool done name d ≡ Ok r → AllUses in_context 0 r
-one_uses false names room pool done name d r so_far e = let is : (done, pool) ≡ r = cc in subst (AllUses in_context 0) is so_far
-one_uses true names room pool done name d r so_far e = go (context_of names room pool name d) (λ q at. context_uses names room pool name d q at) e
-  where
-    go : (o : Option (ContextView × List Pattern)) → ((q : ContextView × List Pattern) → o ≡ Some q → Uses in_context pool q) → push_context done name o ≡ Ok r → AllUses in_context 0 r
-    go None uses e = let no_ : ⊥ = cc in absurd no_
-    go (Some q) uses e =
-        let is : (done ++ q.0 ∷ [], q.1) ≡ r = cc in
-        subst (AllUses in_context 0) is (pushed in_context 0 (length pool) (length q.1) done q.0 so_far (uses q refl))
-
-part_uses : (early : Bool) (names : List Bytes) (ms : Members) (room : ℕ) (pool : List Pattern) (done : List ContextView) (r : Contexts) → AllUses in_context 0 (done, pool) → part_of early names ms room pool done ≡ Ok r → AllUses in_context 0 r
-part_uses early names no_members room pool done r so_far e = let is : (done, pool) ≡ r = cc in subst (AllUses in_context 0) is so_far
-part_uses early names (member name d ms) room pool done r so_far e =
-    go (one_context (in_part early name) names room pool done name d) (λ q at. one_uses (in_part early name) names room pool done name d q so_far at) (λ q so f. part_uses early names ms (room - 1) q.1 q.0 r so f) e
-  where
-    go : (o : Result Contexts RulesFault) → ((q : Contexts) → o ≡ Ok q → AllUses in_context 0 q) → ((q : Contexts) → AllUses in_context 0 q → part_of early names ms (room - 1) q.1 q.0 ≡ Ok r → AllUses in_context 0 r)
-        → next_context (part_of early names ms (room - 1)) o ≡ Ok r → AllUses in_context 0 r
-    go (Err fault) one rest e = let no_ : ⊥ = cc in absurd no_
-    go (Ok q) one rest e = rest q (one q refl) e
-
-second_uses : (names : List Bytes) (ms : Members) (first : Result Contexts RulesFault) (r : Contexts) → ((q : Contexts) → first ≡ Ok q → AllUses in_context 0 q) → second_part names ms first ≡ Ok r → AllUses in_context 0 r
-second_uses names ms (Err fault) r uses e = let no_ : ⊥ = cc in absurd no_
-second_uses names ms (Ok q) r uses e =
-    part_uses false names ms most_contexts q.1 (q.0 ++ default_context ∷ []) r (pushed in_context 0 (length q.1) (length q.1) q.0 default_context (uses q refl) refl) e
-
-contexts_use : (names : List Bytes) (ms : Members) (r : Contexts) → contexts_in names ms ≡ Ok r → AllUses in_context 0 r
-unfolding contexts_in
-contexts_use names ms r e = second_uses names ms (part_of true names ms most_contexts [] []) r (λ q at. part_uses true names ms most_contexts [] [] q refl at) e
+contexts_use : (names : List Bytes) (cs : List FileContext) (pool : List Pattern) (done : List ContextView) (r : List ContextView × List Pattern) → AllUses in_context 0 (done, pool) → contexts_from names cs pool done ≡ Ok r → AllUses in_context 0 r
+contexts_use names [] pool done r so_far e = let is : (done, pool) ≡ r = cc in subst (AllUses in_context 0) is so_far
+contexts_use names (c ∷ cs) pool done r so_far e =
+    let one = then_is (context_in names pool c) _ r e in
+    contexts_use names cs one.0.1 (done ++ one.0.0 ∷ []) r (pushed in_context 0 (length pool) (length one.0.1) done one.0.0 so_far (one_uses names pool c one.0 one.1)) one.2
 
 -- ---- whole files
 
 abbrev IsUsed : RulesView → Type 0
 IsUsed rules = AreByFirstUse 0 (used_numbers rules) (length rules.patterns)
 
-parts_use : (names : List Bytes) (contexts : Members) (rules tags pages feeds : Items) (view : RulesView) → parts_with names contexts rules tags pages feeds ≡ Ok view → IsUsed view
+parts_use : (names : List Bytes) (contexts : List FileContext) (rules tags pages feeds : Items) (view : RulesView) → parts_with names contexts rules tags pages feeds ≡ Ok view → IsUsed view
 parts_use names contexts rules tags pages feeds view e =
-    let c = then_is (contexts_in names contexts) _ view e in
+    let c = then_is (contexts_from names contexts [] []) _ view e in
     let r = then_is (rules_from names rules 1 c.0.1 []) _ view c.2 in
     let t = then_is (tags_from names tags 1 r.0.1 []) _ view r.2 in
     let p = then_is (pages_from names pages 1 t.0.1 []) _ view t.2 in
@@ -251,7 +228,7 @@ parts_use names contexts rules tags pages feeds view e =
     let here : RulesView = record { rules = r.0.0; contexts = c.0.0; patterns = p.0.1; tags = t.0.0; pages = p.0.0; feeds = f.0 } in
     let last = f.2 in
     let is : here ≡ view = cc in
-    let cs = contexts_use names contexts c.0 c.1 in
+    let cs = contexts_use names contexts [] [] c.0 refl c.1 in
     let rs = rules_use names rules 1 c.0.1 [] (length c.0.1) r.0 refl r.1 in
     let ts = tags_use names tags 1 r.0.1 [] (length r.0.1) t.0 refl t.1 in
     let ps = pages_use names pages 1 t.0.1 [] (length t.0.1) p.0 refl p.1 in
@@ -272,7 +249,7 @@ top_uses None contexts feeds pages rules tags view e =
   where
     go : (contexts : Members) (rules tags pages feeds : Items) (many : Bool) → unless_many many contexts rules tags pages feeds ≡ Ok view → IsUsed view
     go contexts rules tags pages feeds true e = let no_ : ⊥ = cc in absurd no_
-    go contexts rules tags pages feeds false e = parts_use (names_of contexts) contexts rules tags pages feeds view e
+    go contexts rules tags pages feeds false e = parts_use (names_of contexts) (listed contexts) rules tags pages feeds view e
 
 table_uses : (ms : Members) (view : RulesView) → rules_of_table ms ≡ Ok view → IsUsed view
 unfolding rules_of_table
