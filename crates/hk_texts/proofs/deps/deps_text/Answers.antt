@@ -15,6 +15,6 @@ loop-number-preserved c =
     record {
       few = search rules;
       text =
-        three-written c.loop-number.out.items _ _ c.write_used.new.out.items _ _ _ _ c.in_ok-write_item.ensures c.in_ok-append.ensures c.in_ok-write_used.ensures c.loop-number.invariant.text
-        ∙ sym (ap (first_lines (lookups c.args.plan.now) (map outcome_view c.args.outcomes.now)) (add-one c.loop-number.number));
+          three-written c.loop-number.out.items _ _ c.write_used.new.out.items _ _ _ _ c.in_ok-write_item.ensures c.in_ok-append.ensures c.in_ok-write_used.ensures c.loop-number.invariant.text
+          ∙ sym (ap (first_lines (lookups c.args.plan.now) (map outcome_view c.args.outcomes.now)) (add-one c.loop-number.number));
     }
