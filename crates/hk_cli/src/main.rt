@@ -28,7 +28,7 @@ fn run<R: Threads + Wait + Sync>(
     alloc: Global,
 ) -> Result<Status, NoMemory> {
     let words = words(rt, alloc)?;
-    let mut source = OsTree::without(rt, String::from_str(alloc, ".")?, &["_site", "_cache"]);
+    let mut source = OsTree::new(rt, String::from_str(alloc, ".")?);
     let mut site = OsTree::new(rt, String::from_str(alloc, "_site")?);
     let mut cache = OsTree::new(rt, String::from_str(alloc, "_cache")?);
     let mut out = StdSink::new(io::writer(rt));

@@ -13,12 +13,11 @@ use std::io::ErrorKind;
 use std::rt::Files;
 use std::{fs, io};
 
-/// A folder of the system, but for some of the folders in it. It tells nothing of its files. The count of faults rises at each fault.
+/// A folder of the system. It tells nothing of its files. The count of faults rises at each fault.
 #[derive(Drop)]
 pub struct OsTree<'a, R: Files + AllocGlobal + Clone + Drop> {
     rt: &'a R,
     root: String,
-    beside: &'a [&'a str],
     faults: u64,
 }
 
@@ -27,18 +26,9 @@ impl<'a, R: Files + AllocGlobal + Clone + Drop> OsTree<'a, R> {
     pub fn new(rt: &'a R, root: String) -> OsTree<'a, R>
         ensures { result.faults ≡ 0 }
     {
-        OsTree::without(rt, root, &[])
-    }
-
-    /// The folder at a path of the system, which need not be there, without the folders of these names that stand right
-    /// below it: its list has no path of theirs, and they are not looked into. Constant.
-    pub fn without(rt: &'a R, root: String, beside: &'a [&'a str]) -> OsTree<'a, R>
-        ensures { result.faults ≡ 0 }
-    {
         OsTree {
             rt,
             root,
-            beside,
             faults: 0,
         }
     }
@@ -78,7 +68,7 @@ impl<'a, R: Files + AllocGlobal + Clone + Drop> Tree for OsTree<'a, R> {
 
     /// Looks into each folder below the root once.
     fn list(&mut self, alloc: Global) -> Result<Vec<Text>, TreeFault> {
-        let answer = list_files(self.rt, alloc, self.root.as_str(), self.beside);
+        let answer = list_files(self.rt, alloc, self.root.as_str());
         self.faults = counted(self.faults, &answer);
         answer
     }

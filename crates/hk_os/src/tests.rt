@@ -25,11 +25,6 @@ fn a_folder_is_a_tree(rt: HostRuntime) -> Result<(), Fail> {
     assert!(rt; fs::metadata(&rt, "site/a").is_err());
     assert!(rt; fs::metadata(&rt, "site").is_ok());
     assert!(rt; tree.list(alloc)?.is_empty());
-    tree.write(alloc, b"out/a.txt", b"")?;
-    tree.write(alloc, b"in/out/a.txt", b"")?;
-    let mut rest = OsTree::without(&rt, String::from_str(alloc, "site")?, &["out"]);
-    assert_eq!(rt; tree.list(alloc)?.len(), 2);
-    assert_eq!(rt; rest.list(alloc)?.len(), 1);
     assert!(rt; tree.write(alloc, b"empty", b"text") == Err(TreeFault::Failed));
     assert!(rt; tree.write(alloc, b"\xff", b"text") == Err(TreeFault::Failed));
     Ok(())

@@ -19,26 +19,21 @@ struct Folder {
     depth: u32,
 }
 
-/// What is known of a folder: the names right below it that are passed over, the files that were found, and the folders
-/// that are still to be looked into.
+/// What is known of a folder: the files that were found, and the folders that are still to be looked into.
 #[derive(Drop)]
-struct Walk<'a> {
-    beside: &'a [&'a str],
+struct Walk {
     found: Vec<Text>,
     folders: Vec<Folder>,
 }
 
-/// The path of each regular file below the root, in any order, but for those in the folders of these names that stand right
-/// below it, which are not looked into. Links and other kinds are skipped, and a root that is absent has no files. A name that
-/// is not UTF-8 and a folder that stands too deep are faults. Linear in the files and folders that are looked at.
+/// The path of each regular file below the root, in any order. Links and other kinds are skipped, and a root that is absent
+/// has no files. A name that is not UTF-8 and a folder that stands too deep are faults. Linear in the files and folders.
 pub fn list_files<R: Files + AllocGlobal + Clone + Drop>(
     rt: &R,
     alloc: Global,
     root: &str,
-    beside: &[&str],
 ) -> Result<Vec<Text>, TreeFault> {
     let mut walk = Walk {
-        beside,
         found: Vec::new(alloc),
         folders: Vec::new(alloc),
     };
@@ -60,7 +55,7 @@ fn look_into<R: Files + AllocGlobal + Clone + Drop>(
     alloc: Global,
     root: &str,
     folder: &Folder,
-    walk: &mut Walk<'_>,
+    walk: &mut Walk,
 ) -> Result<(), TreeFault> {
     if folder.depth > DEPTH {
         return Err(TreeFault::Failed);
@@ -86,7 +81,7 @@ fn note<R: Files>(
     alloc: Global,
     folder: &Folder,
     entry: &DirEntry<R>,
-    walk: &mut Walk<'_>,
+    walk: &mut Walk,
 ) -> Result<(), TreeFault> {
     let kind = match entry.file_type() {
         Ok(kind) => kind,
@@ -94,9 +89,6 @@ fn note<R: Files>(
         Err(error) => return Err(fault_of(&error)),
     };
     if kind.is_dir() {
-        if folder.depth == 0 && walk.beside.contains(&entry.file_name()) {
-            return Ok(());
-        }
         walk.folders.push(Folder {
             path: below(alloc, folder.path.as_str(), entry.file_name())?,
             depth: folder.depth.saturating_add(1),
