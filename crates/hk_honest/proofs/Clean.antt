@@ -31,7 +31,7 @@ use Rattle.hk_store.specs.declared.damage.StoreDamage.{StoreDamage}
 use Rattle.hk_app.specs.Taking.{IsReadOf, IsTakenOf, Taken, taken_of}
 use Rattle.hk_honest.specs.Honest.{IsHonest, absent, left, damaged}
 
-none-formed : AreFormed no_entries
+pub none-formed : AreFormed no_entries
 none-formed = λ id e found. cc found
 
 -- over nothing a build is a clean one
@@ -51,12 +51,17 @@ image-read old plan apart =
 taken-entries : (bytes : Bytes) → Short bytes → (answer : Result (List EntryView) StoreDamage) → IsRead bytes answer → (t : Taken) → IsReadOf bytes t → t.entries ≡ (taken_of answer).entries
 taken-entries bytes short answer read t h = ap (λ (x : Taken). x.entries) h.taken ∙ ap (λ (a : Result (List EntryView) StoreDamage). (taken_of a).entries) (one-answer bytes short h.answer answer h.read read)
 
+pub left-taken : (plan old : PlanView) → AreApart old plan → Short (image old no_entries) → (t : Taken) → IsReadOf (image old no_entries) t → t.entries ≡ left-by old
+left-taken plan old apart short t h = taken-entries (image old no_entries) short (Ok (list_by sha_digests old (run_of old no_entries))) (image-read old plan apart) t h
+
+pub damage-taken : (bytes : Bytes) (damage : StoreDamage) → Short bytes → IsRead bytes (Err damage) → (t : Taken) → IsReadOf bytes t → t.entries ≡ no_entries
+damage-taken bytes damage short read t h = taken-entries bytes short (Err damage) read t h
+
 clean-left : (plan old : PlanView) → AreApart old plan → Short (image old no_entries) → (t : Taken) → IsReadOf (image old no_entries) t → IsClean plan t.entries
-clean-left plan old apart short t h =
-    by-entries plan t.entries (left-by old) (taken-entries (image old no_entries) short (Ok (list_by sha_digests old (run_of old no_entries))) (image-read old plan apart) t h) (honest-clean old plan apart)
+clean-left plan old apart short t h = by-entries plan t.entries (left-by old) (left-taken plan old apart short t h) (honest-clean old plan apart)
 
 clean-damaged : (plan : PlanView) (bytes : Bytes) (damage : StoreDamage) → Short bytes → IsRead bytes (Err damage) → (t : Taken) → IsReadOf bytes t → IsClean plan t.entries
-clean-damaged plan bytes damage short read t h = by-entries plan t.entries no_entries (taken-entries bytes short (Err damage) read t h) (clean-itself plan)
+clean-damaged plan bytes damage short read t h = by-entries plan t.entries no_entries (damage-taken bytes damage short read t h) (clean-itself plan)
 
 pub clean-taken : (plan : PlanView) (store : Option Bytes) (t : Taken) → IsHonest plan store → IsTakenOf store t → IsClean plan t.entries
 clean-taken plan store t (absent e) h = by-entries plan t.entries no_entries (ap (λ (x : Taken). x.entries) (subst (λ o. IsTakenOf o t) e h)) (clean-itself plan)

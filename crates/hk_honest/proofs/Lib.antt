@@ -1,3 +1,4 @@
 pub mod Runs
 pub mod Clean
 pub mod Stops
+pub mod Said

@@ -15,7 +15,7 @@ use Rattle.hk_words.specs.declared.commands.Command.TheVariants.{Build}
 use Rattle.hk_words.specs.Words.{command}
 use Rattle.hk_app.specs.declared.status.Status.{Status}
 use Rattle.hk_app.specs.declared.status.Status.TheVariants.{Ok as Done, Report}
-use Rattle.hk_app.specs.Promise.{Builds, EndsStopped, EndsWhole, IsDone, IsPlanOf, IsStopped, Reports, Says}
+use Rattle.hk_app.specs.Promise.{Builds, EndsStopped, EndsWhole, IsDone, IsPlanOf, IsStopped, Reports, Runs, Says}
 use Rattle.hk_app.specs.FolderReading.{Reading, absent, planned, refused, unplanned}
 use Rattle.hk_app.specs.Standing.{store_path}
 use Rattle.hk_app.specs.Taking.{IsTakenOf, Taken, Takes}
@@ -41,15 +41,16 @@ same-command words c o e f = some-is c (Build o) (sym e ∙ f)
     some-is x y is = cc is
 
 -- what was taken, and how the build of the plan ended
-ended : (E : Bytes → PlanView → Taken → Type 0) (trace : Bool) (said : Bytes) (o : BuildOptions) (plan : PlanView) (cache : Files) (old new : Folders) (status : Status) → IsRun plan cache old new status
-    → Takes (Build o) old.cache (Says E trace said plan) → (t : Taken) × IsTakenOf (get cache store_path) t × Says E trace said plan t
-ended E trace said o plan cache old new status r h = at-some (λ m. (t : Taken) × IsTakenOf (get m store_path) t × Says E trace said plan t) r.cache_told h
+pub ended : (E : Bytes → PlanView → Taken → Type 0) (trace : Bool) (said : Bytes) (o : BuildOptions) (plan : PlanView) (cache : Files) (old new : Folders) (status : Status) → IsRun plan cache old new status
+    → Runs (Build o) old (Says E trace said) → (t : Taken) × IsTakenOf (get cache store_path) t × Says E trace said plan t
+ended E trace said o plan cache old new status r h =
+    let p = at-some (λ m. (q : PlanView) × IsPlanOf m q × Takes (Build o) old.cache (Says E trace said q)) r.source_told h in
+    let same : p.0 ≡ plan = one-plan p.0 plan (sym p.1.read ∙ r.plan_of.read) in
+    at-some (λ m. (t : Taken) × IsTakenOf (get m store_path) t × Says E trace said plan t) r.cache_told (subst (λ q. Takes (Build o) old.cache (Says E trace said q)) same p.2)
 
 clean-ok : (plan : PlanView) (cache : Files) (old new : Folders) → (r : IsRun plan cache old new Done) → IsHonest plan (get cache store_path) → (o : BuildOptions) (said : Bytes) → Builds (Build o) o.trace old new said → IsCleanSite plan cache new
 clean-ok plan cache old new r honest o said b =
-    let p = at-some (λ m. (q : PlanView) × IsPlanOf m q × Takes (Build o) old.cache (Says (EndsWhole old new) o.trace said q)) r.source_told b.run in
-    let same : p.0 ≡ plan = one-plan p.0 plan (sym p.1.read ∙ r.plan_of.read) in
-    let w = ended (EndsWhole old new) o.trace said o plan cache old new Done r (subst (λ q. Takes (Build o) old.cache (Says (EndsWhole old new) o.trace said q)) same p.2) in
+    let w = ended (EndsWhole old new) o.trace said o plan cache old new Done r b.run in
     let clean : IsClean plan w.0.entries = clean-taken plan (get cache store_path) w.0 honest w.1 in
     record {
       all = sym (same-report plan w.0.entries clean) ∙ w.2.ends.all;
@@ -59,9 +60,7 @@ clean-ok plan cache old new r honest o said b =
 
 clean-report : (plan : PlanView) (cache : Files) (old new : Folders) → (r : IsRun plan cache old new Report) → IsHonest plan (get cache store_path) → (o : BuildOptions) (said : Bytes) → Reports (Build o) o.trace old new said → IsCleanReport plan cache old new
 clean-report plan cache old new r honest o said b =
-    let p = at-some (λ m. (q : PlanView) × IsPlanOf m q × Takes (Build o) old.cache (Says (EndsStopped old new) o.trace said q)) r.source_told b.run in
-    let same : p.0 ≡ plan = one-plan p.0 plan (sym p.1.read ∙ r.plan_of.read) in
-    let w = ended (EndsStopped old new) o.trace said o plan cache old new Report r (subst (λ q. Takes (Build o) old.cache (Says (EndsStopped old new) o.trace said q)) same p.2) in
+    let w = ended (EndsStopped old new) o.trace said o plan cache old new Report r b.run in
     let clean : IsClean plan w.0.entries = clean-taken plan (get cache store_path) w.0 honest w.1 in
     record {
       some = sym (same-report plan w.0.entries clean) ∙ w.2.ends.some;

@@ -15,7 +15,7 @@ use Rattle.hk_words.specs.Words.{command}
 use Rattle.hk_writer.specs.Writing.{HeldOrNone}
 use Rattle.hk_app.specs.declared.status.Status.{Status}
 use Rattle.hk_app.specs.declared.status.Status.TheVariants.{Ok as Done, Report, Usage, BadRules, BadSite, ReadFault, WriteFault, StoreFault, OutFault, NoMemory, BadLinks}
-use Rattle.hk_app.specs.Promise.{IsBadLinks, IsBadRules, IsBadSite, IsPast, IsPlanOf, IsRefused, IsStoreFault, IsUnplanned, IsWriteFault, Leaves, Promise, Runs, StoreLeft, StopsBuild, StopsClean}
+use Rattle.hk_app.specs.Promise.{AtOutFault, Holds, IsBadLinks, IsBadRules, IsBadSite, IsPast, IsPlanOf, IsRefused, IsStoreFault, IsUnplanned, IsWriteFault, Leaves, Promise, Runs, StoreLeft, StopsBuild, StopsClean}
 use Rattle.hk_app.specs.Promise.{unsaved, saved, torn_store, unbegun, partly, torn_site, past, clearing_site, clearing_cache}
 use Rattle.hk_app.specs.FolderReading.{Reading, planned, reading}
 use Rattle.hk_app.specs.Standing.{LostSome, Same, store_path}
@@ -152,13 +152,25 @@ unwritten-same Clean old new text h = h.cache
 unwritten-same (Generate o) old new text h = absurd h
 unwritten-same Links old new text h = absurd h
 
+-- whether its text was written or cut short
+same-elsewhere : (words : List Bytes) (old new : Folders) (status : Status) (text : Bytes) → Holds words old new status text → FailsElsewhere status → Same old.cache new.cache
+same-elsewhere words old new status text h (inl unread) =
+    let k : Holds words old new ReadFault text = subst (λ s. Holds words old new s text) unread h in
+    k.comes.cache
+same-elsewhere words old new status text h (inr unwritten) =
+    let k : Holds words old new WriteFault text = subst (λ s. Holds words old new s text) unwritten h in
+    unwritten-same k.task old new text k.comes
+
 pub kept-elsewhere : (plan : PlanView) (cache after : Files) (r : IsRunBefore plan cache after) → FailsElsewhere r.status → after ≡ cache
 kept-elsewhere plan cache after r (inl unread) =
     let h = (subst (λ s. Promise r.words r.old r.new r.out r.out' s) unread r.promise).said in
-    same-files plan cache after r h.holds.comes.cache
+    same-files plan cache after r (same-elsewhere r.words r.old r.new ReadFault h.text h.holds (inl refl))
 kept-elsewhere plan cache after r (inr unwritten) =
     let h = (subst (λ s. Promise r.words r.old r.new r.out r.out' s) unwritten r.promise).said in
-    same-files plan cache after r (unwritten-same h.holds.task r.old r.new h.text h.holds.comes)
+    same-files plan cache after r (same-elsewhere r.words r.old r.new WriteFault h.text h.holds (inr refl))
+
+pub kept-unsaid : (plan : PlanView) (cache after : Files) (r : IsRunBefore plan cache after) → (p : AtOutFault r.words r.old r.new r.out r.out') → FailsElsewhere p.status → after ≡ cache
+kept-unsaid plan cache after r p elsewhere = same-files plan cache after r (same-elsewhere r.words r.old r.new p.status p.text p.holds elsewhere)
 
 -- ---- what a build without faults answers
 

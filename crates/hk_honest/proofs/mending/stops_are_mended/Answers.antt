@@ -1,5 +1,5 @@
 use Rattle.hk_honest.proofs.Runs.{run-ok, run-report}
-use Rattle.hk_honest.proofs.Stops.{answered, kept-elsewhere, left-honest, store-after}
+use Rattle.hk_honest.proofs.Stops.{answered, kept-elsewhere, kept-unsaid, left-honest, store-after}
 use Rattle.hk_honest.proofs.mending.stops_are_mended.Goals as goal
 
 pub returns-clause-store : goal.returns-clause-store
@@ -7,6 +7,9 @@ returns-clause-store c = store-after
 
 pub returns-clause-elsewhere : goal.returns-clause-elsewhere
 returns-clause-elsewhere c = kept-elsewhere
+
+pub returns-clause-unsaid : goal.returns-clause-unsaid
+returns-clause-unsaid c = kept-unsaid
 
 pub returns-clause-honest : goal.returns-clause-honest
 returns-clause-honest c = left-honest
