@@ -77,7 +77,8 @@ pub struct Seen {
 }
 
 impl Seen {
-    /// Whether the second call polled just the items that the first one left, and the third item is out.
+    /// Whether the second call polled just the items that the first one left, each for its save and for the ask at which it
+    /// parks, and the third item is out.
     pub fn polled_what_was_left(&self) -> bool {
         let mut was_left = [false; 3];
         for item in self.between {
@@ -89,7 +90,8 @@ impl Seen {
         }
         for item in 0..3u32 {
             let is_out = self.first_out == Some(item);
-            if was_left[item as usize] == is_out || (self.enters[item as usize] == 0) != is_out {
+            let polls = if is_out { 0 } else { 2 };
+            if was_left[item as usize] == is_out || self.enters[item as usize] != polls {
                 return false;
             }
         }
