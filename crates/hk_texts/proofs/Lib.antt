@@ -1,2 +1,5 @@
+pub mod Histories
+pub mod Lines
 pub mod ReportNumbers
+pub mod Separated
 pub mod Views

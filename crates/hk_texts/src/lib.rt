@@ -4,6 +4,7 @@
 mod damage;
 mod deps;
 mod done;
+mod laws;
 mod pieces;
 mod refusals;
 mod report;
@@ -12,6 +13,7 @@ mod trace;
 pub use damage::damage_line;
 pub use deps::deps_text;
 pub use done::{items_line, removed_line, summary};
+pub use laws::printed_traces_tell_histories;
 pub use refusals::{feed_line, plan_line, rules_line, tag_line};
 pub use report::report_text;
 pub use trace::trace_text;
