@@ -92,7 +92,7 @@ counted plan t c (Some m) new counts text is all text-is h =
     let rest : length plan.items - c ≡ length (reused plan t.entries) = omega (arith, is, all) in
     text-is ∙ (λ i. summary (is i) (rest i) (h.written i) (h.removed i))
 
-when-known : (old : Option Files) (Q : Type 0) (P : Files → Type 0) → IfSome old (λ m. Q → P m) → Q → IfSome old P
+pub when-known : (old : Option Files) (Q : Type 0) (P : Files → Type 0) → IfSome old (λ m. Q → P m) → Q → IfSome old P
 when-known None Q P h q = tt
 when-known (Some m) Q P h q = h q
 
