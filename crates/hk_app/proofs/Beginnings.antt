@@ -20,11 +20,7 @@ use Rattle.hk_app.specs.Standing.{Same, Told}
 use Rattle.hk_app.specs.TakenBy.{taken_by}
 use Rattle.hk_app.specs.Taking.{Taken}
 use Rattle.hk_app.specs.World.{Folder, Folders, folder, folders}
-use Rattle.hk_app.proofs.Endings.{build-task, leaves-still, rebuild-task}
-
-told-self : (o : Option Files) → IfSome o (λ m. IsSome o)
-told-self None = tt
-told-self (Some m) = refl
+use Rattle.hk_app.proofs.Endings.{build-task, leaves-still, rebuild-task, told-self}
 
 told-on : (a b : Option Files) → b ≡ a → (c : Option Files) → IfSome b (λ m. IsSome c) → IfSome a (λ m. IsSome c)
 told-on a b e c h = subst (λ o. IfSome o (λ m. IsSome c)) e h

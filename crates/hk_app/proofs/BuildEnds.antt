@@ -92,27 +92,15 @@ counted plan t c (Some m) new counts text is all text-is h =
     let rest : length plan.items - c ≡ length (reused plan t.entries) = omega (arith, is, all) in
     text-is ∙ (λ i. summary (is i) (rest i) (h.written i) (h.removed i))
 
-when-known : (old : Option Files) (Q : Type 0) (P : Files → Type 0) → IfSome old (λ m. Q → P m) → Q → IfSome old P
+pub when-known : (old : Option Files) (Q : Type 0) (P : Files → Type 0) → IfSome old (λ m. Q → P m) → Q → IfSome old P
 when-known None Q P h q = tt
 when-known (Some m) Q P h q = h q
 
--- what a failed call left of the pages
-pub torn-pages : (files : Files) (ps : List (Bytes × Bytes)) (old new : Option Files) (Q : Type 0) → ps ≡ entries files → IfSome old (λ m. Q → IfSome new (IsTornInPart (changes ps m) m)) → Q → IfSome old (λ m. IfSome new (IsTornInPart (changes (entries files) m) m))
-torn-pages files ps old new Q is h q = subst (λ ps. IfSome old (λ m. IfSome new (IsTornInPart (changes ps m) m))) is (when-known old Q (λ m. IfSome new (IsTornInPart (changes ps m) m)) h q)
-
--- what want of memory left of them
+-- what want of memory left of the pages
 pub made-pages : (files : Files) (ps : List (Bytes × Bytes)) (old new : Option Files) (Q : Type 0) → ps ≡ entries files → IfSome old (λ m. Q → IfSome new (IsMadeInPart (changes ps m) m)) → Q → IfSome old (λ m. IfSome new (IsMadeInPart (changes (entries files) m) m))
 made-pages files ps old new Q is h q = subst (λ ps. IfSome old (λ m. IfSome new (IsMadeInPart (changes ps m) m))) is (when-known old Q (λ m. IfSome new (IsMadeInPart (changes ps m) m)) h q)
 
 module _ (plan : PlanView) (t : Taken) (source source' site site' cache : Folder) where
-  -- a call of the site failed, and then its line was made
-  pub torn-run : (r : Result Ended NoMemory-data) → AllEnd plan t → Rose site.faults site'.faults → IsTorn (site_of plan t.entries) site site'
-      → IfOk r (λ e. (e.status ≡ WriteFault) × (e.text ≡ write_fault_line)) → EndsBuild (folders source site cache) (folders source' site' cache) plan t r
-  torn-run (Err e) all rose left said = past_fault rose all left refl
-  torn-run (Ok e) all rose left said =
-      subst (λ s. EndsBuilt (folders source site cache) (folders source' site' cache) plan t s e.text) (sym said.0)
-      (record { rose = rose; cache = refl; ends = record { all = all; site = left; text = said.1 } })
-
   -- all pages were written, and then memory was wanting
   pub past-pages : AllEnd plan t → HoldsOnly (site_of plan t.entries) site site' → WantsBuilt (folders source site cache) (folders source' site' cache) plan t
   past-pages all h = after_all (but-same cache.files cache.files refl) (record { rest = text-of site.files; done = whole all h (text-is site.files); store = unsaved refl })
@@ -132,9 +120,3 @@ module _ (plan : PlanView) (t : Taken) (source source' site site' cache cache' :
   written-run ended is all holds text =
       saves-of plan t (folders source site cache) (folders source' site' cache') ended (whole all holds text)
       (λ store but. subst (λ s. EndsBuilt (folders source site cache) (folders source' site' cache') plan t s ended.text) (sym is) (but, record { all = all; site = holds; store = store; text = text }))
-
-  pub stopped-run : (ended : Ended) → ended.status ≡ Report → SomeStop plan t → Same site site' → ended.text ≡ report_lines plan t
-      → (r : Result Ended NoMemory-data) → Saves (image plan t.entries) ended cache cache' r → EndsBuild (folders source site cache) (folders source' site' cache') plan t r
-  stopped-run ended is some still text =
-      saves-of plan t (folders source site cache) (folders source' site' cache') ended (stopped some still text)
-      (λ store but. subst (λ s. EndsBuilt (folders source site cache) (folders source' site' cache') plan t s ended.text) (sym is) (still, (but, record { some = some; store = store; text = text })))

@@ -16,10 +16,7 @@ use Rattle.hk_app.specs.Promise.{Always, Comes, StopsClean, clearing_site, clear
 use Rattle.hk_app.specs.Run.{EndsAs, WantsTask}
 use Rattle.hk_app.specs.Standing.{IsCleared, LostSome, Told}
 use Rattle.hk_app.specs.World.{Folder, Folders, folders}
-
-told-self : (o : Option Files) → IfSome o (λ m. IsSome o)
-told-self None = tt
-told-self (Some m) = refl
+use Rattle.hk_app.proofs.Endings.{told-self}
 
 module _ (source site site' cache cache' : Folder) (moves : Moves site site') where
   always : Moves cache cache' → Always (folders source site cache) (folders source site' cache')

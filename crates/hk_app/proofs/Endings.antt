@@ -65,30 +65,6 @@ runs-map c old P Q f = plans-map old (λ plan. Takes c old.cache (P plan)) (λ p
 
 -- ---- one command
 
-module _ (P : Reading → Type 0) (source source' site cache : Folder) (h : IfSome source.files (λ m. P (reading m))) where
-  unplanned-of : (c : Command) → reads_source c ≡ true → IsUnplanned c P (folders source site cache) (folders source' site cache)
-  unplanned-of (Build o) reads = record { reads = reads; cause = h; site = refl; cache = refl }
-  unplanned-of (Rebuild o) reads = record { reads = reads; cause = h; site = refl; cache = refl }
-  unplanned-of Check reads = record { reads = reads; cause = h; site = refl; cache = refl }
-  unplanned-of Deps reads = record { reads = reads; cause = h; site = refl; cache = refl }
-  unplanned-of Clean reads = record { reads = reads; cause = h; site = refl; cache = refl }
-  unplanned-of (Generate o) reads = absurd (cc reads)
-  unplanned-of Links reads = record { reads = reads; cause = h; site = refl; cache = refl }
-
--- the source was refused, whatever the command that reads it
-pub refused-task : (c : Command) (source source' site cache : Folder) (status : Status) (text : Bytes) → reads_source c ≡ true → RefusesFolder source source' status text → Comes c (folders source site cache) (folders source' site cache) status text
-refused-task c source source' site cache Done text reads h = absurd h
-refused-task c source source' site cache Report text reads h = absurd h
-refused-task c source source' site cache Usage text reads h = absurd h
-refused-task c source source' site cache BadRules text reads h = unplanned-of (IsBadRules text) source source' site cache h c reads
-refused-task c source source' site cache BadSite text reads h = unplanned-of (IsBadSite text) source source' site cache h c reads
-refused-task c source source' site cache ReadFault text reads h = record { reads = reads; cause = h.0; site = refl; cache = refl; text = h.1 }
-refused-task c source source' site cache WriteFault text reads h = absurd h
-refused-task c source source' site cache StoreFault text reads h = absurd h
-refused-task c source source' site cache OutFault text reads h = absurd h
-refused-task c source source' site cache NoMemory text reads h = absurd h
-refused-task c source source' site cache BadLinks text reads h = absurd h
-
 module _ (c : Command) (trace : Bool) (old new : Folders) (plan : PlanView) (t : Taken) (read : IfSome old.source.files (λ m. IsPlanOf m plan)) (taken : IsTakenBy c old.cache t) where
   runs-of : (P : PlanView → Taken → Type 0) → P plan t → Runs c old P
   runs-of P h = plans-of old (λ p. Takes c old.cache (P p)) plan read (takes-of c old.cache (P plan) t taken h)
@@ -150,24 +126,6 @@ module _ (o : BuildOptions) (old new : Folders) (plan : PlanView) (t : Taken) (r
   rebuild-task taken (Ok e) always h = record { always = always; comes = rebuild-comes taken e.status h.0 e.text h.1 h.2 }
   rebuild-task taken (Err e) always h = record { always = always; leaves = stops-build (Rebuild o) o.trace old new plan t read taken h }
 
--- a command that writes nothing but its text
-module _ (shown : PlanView → Bytes) (source source' site cache : Folder) (plan : PlanView) (read : IfSome source.files (λ m. IsPlanOf m plan)) where
-  pub check-comes : (status : Status) (text : Bytes) → EndsChecked shown plan status text
-      → (C : Command) → (Shows shown (folders source site cache) (folders source' site cache) text → Comes C (folders source site cache) (folders source' site cache) Done text)
-      → (Plans (folders source site cache) (IsNamed text) → Comes C (folders source site cache) (folders source' site cache) Report text)
-      → Comes C (folders source site cache) (folders source' site cache) status text
-  check-comes Done text h C done named = done (record { site = refl; cache = refl; run = plans-of (folders source site cache) (IsShown shown text) plan read h })
-  check-comes Report text h C done named = named (plans-of (folders source site cache) (IsNamed text) plan read h)
-  check-comes Usage text h C done named = absurd h
-  check-comes BadRules text h C done named = absurd h
-  check-comes BadSite text h C done named = absurd h
-  check-comes ReadFault text h C done named = absurd h
-  check-comes WriteFault text h C done named = absurd h
-  check-comes StoreFault text h C done named = absurd h
-  check-comes OutFault text h C done named = absurd h
-  check-comes NoMemory text h C done named = absurd h
-  check-comes BadLinks text h C done named = absurd h
-
 -- a task by its name
 pub same-task : (c d : Command) (old new : Folders) (r : Result Ended NoMemory-data) → c ≡ d → EndsAs d old new r → EndsAs c old new r
 same-task c d old new r e h = subst (λ t. EndsAs t old new r) (sym e) h
@@ -199,12 +157,6 @@ told-self (Some m) = refl
 pub always-same : (old : Folders) → Always old old
 always-same old =
     record { source = refl; source_count = omega arith; site_count = omega arith; site_told = told-self old.site.files; cache_count = omega arith; cache_told = told-self old.cache.files }
-
--- the words are no command
-pub usage-ends : (words : List Bytes) (old : Folders) (r : Result Ended NoMemory-data) → command words ≡ None → IfOk r (λ e. (e.status ≡ Usage) × (e.text ≡ usage)) → EndsWith words old old r
-usage-ends words old (Ok e) cause h =
-    record { always = always-same old; holds = subst (λ s. Holds words old old s e.text) (sym h.0) (record { cause = cause; folders = refl; text = h.1 }) }
-usage-ends words old (Err e) cause h = record { always = always-same old; leaves = subst (λ o. Leaves o old old) (sym cause) refl }
 
 -- nothing of site and cache changed, and the command isn't `gen`, which touches nothing
 pub leaves-still : (c : Command) (old new : Folders) → reads_source c ≡ true → Same old.site new.site → Same old.cache new.cache → Leaves (Some c) old new

@@ -116,22 +116,3 @@ whole_folder p None now paths s r listed made same read = tt
 whole_folder p (Some m) now paths s r listed made same read =
     let here = subst (λ o. IfSome o (λ m. IfOk r (λ v. v.items ≡ read_at m s.keys))) same read in
     IfOk-weaker r _ _ (λ v e. e ∙ read_at-entries p m s.keys made.1 (λ q. made.0 q ∙ any-filter p q paths ∙ ap (λ b. p q && b) (sym (list_any-IsPermutation (eq_by_cmp R q) _ _ listed)))) here
-
--- ---- sorted paths that are the keys of a folder
-
-keys-read_at : (m : Files) (ks : List Bytes) → ((q : Bytes) → list_any (eq_by_cmp R q) ks ≡ true → is_some (get m q) ≡ true) → map (λ (e : Bytes × Bytes). e.0) (read_at m ks) ≡ ks
-keys-read_at m [] h = refl
-keys-read_at m (k ∷ ks) h =
-    front (get m k) (h k (ap (λ b. b || list_any (eq_by_cmp R k) ks) (ties-self k))) ∙ ap (λ t. k ∷ t) (keys-read_at m ks (λ q f. h q (either-right (eq_by_cmp R q k) _ f)))
-  where
-    front : (o : Option Bytes) → is_some o ≡ true → map (λ (e : Bytes × Bytes). e.0) (entry_front k o (read_at m ks)) ≡ k ∷ map (λ (e : Bytes × Bytes). e.0) (read_at m ks)
-    front None e = absurd (subst T (sym e) tt)
-    front (Some b) e = refl
-
-all-pass : (es : List (Bytes × Bytes)) → filter (λ (e : Bytes × Bytes). true) es ≡ es
-all-pass [] = refl
-all-pass (e ∷ es) = ap (λ t. e ∷ t) (all-pass es)
-
-pub only-keys : (m : Files) (ks : List Bytes) → IsStrictlySortedBy R ks → ((q : Bytes) → list_any (eq_by_cmp R q) ks ≡ list_any (eq_by_cmp R q) (keys m)) → ks ≡ keys m
-only-keys m ks sorted same =
-    sym (keys-read_at m ks (λ q f. contains_key-keys m q ∙ sym (same q) ∙ f)) ∙ ap (map (λ (e : Bytes × Bytes). e.0)) (read_at-entries (λ q. true) m ks sorted same ∙ all-pass (entries m))

@@ -18,6 +18,7 @@ use Rattle.hk_app.specs.declared.status.Status.TheVariants.{Ok as Done, Report, 
 use Rattle.hk_app.specs.Cleaning.{ClearedAs, ClearsCache}
 use Rattle.hk_app.specs.Standing.{IsCleared, LostSome}
 use Rattle.hk_app.specs.World.{Folder, folder}
+use Rattle.hk_app.proofs.BuildEnds.{when-known}
 
 abbrev IsRemoval : Change → Type 0
 IsRemoval (removal path) = Unit {0}
@@ -87,15 +88,11 @@ some-both P Q f None new h = tt
 some-both P Q f (Some m) None h = tt
 some-both P Q f (Some m) (Some n) h = f m n h
 
-when : (old : Option Files) (W : Type 0) (P : Files → Type 0) → IfSome old (λ m. W → P m) → W → IfSome old P
-when None W P h w = tt
-when (Some m) W P h w = h w
-
 pub lost-wanting : (W : Type 0) (old new : Option Files) → IfSome old (λ m. W → IfSome new (IsMadeInPart (changes [] m) m)) → W → IfSome old (λ m. IfSome new (λ n. (path : Bytes) → HeldOrNone path m n))
-lost-wanting W old new h w = some-both (λ m. IsMadeInPart (changes [] m) m) (λ m n. (path : Bytes) → HeldOrNone path m n) lost-in-part old new (when old W (λ m. IfSome new (IsMadeInPart (changes [] m) m)) h w)
+lost-wanting W old new h w = some-both (λ m. IsMadeInPart (changes [] m) m) (λ m n. (path : Bytes) → HeldOrNone path m n) lost-in-part old new (when-known old W (λ m. IfSome new (IsMadeInPart (changes [] m) m)) h w)
 
 pub lost-failed : (W : Type 0) (old new : Option Files) → IfSome old (λ m. W → IfSome new (IsTornInPart (changes [] m) m)) → W → IfSome old (λ m. IfSome new (λ n. (path : Bytes) → HeldOrNone path m n))
-lost-failed W old new h w = some-both (λ m. IsTornInPart (changes [] m) m) (λ m n. (path : Bytes) → HeldOrNone path m n) torn-in-part old new (when old W (λ m. IfSome new (IsTornInPart (changes [] m) m)) h w)
+lost-failed W old new h w = some-both (λ m. IsTornInPart (changes [] m) m) (λ m n. (path : Bytes) → HeldOrNone path m n) torn-in-part old new (when-known old W (λ m. IfSome new (IsTornInPart (changes [] m) m)) h w)
 
 pub lost-all : (old new : Option Files) → IfSome old (λ m. new ≡ Some empty) → IfSome old (λ m. IfSome new (λ n. (path : Bytes) → HeldOrNone path m n))
 lost-all None new h = tt

@@ -1,11 +1,9 @@
 -- Bytes that are written front by front.
-use Rattle.std.proofs.Common.{◌≡◌, ℕ, ◌+◌, ◌-◌, ◌≤◌, ◌++◌, length, take, drop, Option, Some, None, Ok, Err, IfSome, sym, ap, subst, ◌∙◌, append_assoc, append-nil, length-drop, rules, arith}
+use Rattle.std.proofs.Common.{◌≡◌, ℕ, ◌+◌, ◌-◌, ◌≤◌, ◌++◌, length, take, drop, Option, Some, None, IfSome, sym, ap, subst, ◌∙◌, append_assoc, length-drop, arith}
 use Rattle.std.proofs.Math.Seq.{take-add}
 use Rattle.std.proofs.lemmas.List.{take_all}
 use Rattle.std.specs.Io.KnownBytes as known
 use Rattle.hk_base.specs.Bytes.{Bytes}
-use Rattle.hk_outside.specs.Sink.{Appends}
-use Rattle.hk_outside.specs.declared.tree.TreeFault.TheVariants.{Failed}
 
 -- so many first bytes stand at the end
 pub record Front (bytes : Bytes) (old now : Option Bytes) (at : ℕ) : Type 0 where
@@ -26,10 +24,6 @@ appended now new x bs is k = of new (subst (λ o. known.Appends o new bs) is k)
     of None k = absurd k
     of (Some y) k = ap Some k
 
-pub Front-none : (bytes : Bytes) (old : Option Bytes) → Front bytes old old 0
-Front-none bytes None = record { within = omega arith; taken = tt }
-Front-none bytes (Some w) = record { within = omega arith; taken = ap Some (sym (append-nil w)) }
-
 pub Front-kept : (bytes : Bytes) (old now new : Option Bytes) (at : ℕ) → Front bytes old now at → known.Keeps now new → Front bytes old new at
 Front-kept bytes None now new at f k = record { within = f.within; taken = tt }
 Front-kept bytes (Some w) now new at f k = record { within = f.within; taken = kept now new _ f.taken k }
@@ -42,24 +36,6 @@ Front-more bytes None now new at count f le k = record { within = room at count 
 Front-more bytes (Some w) now new at count f le k = record {
   within = room at count bytes f.within le;
   taken = appended now new _ _ f.taken k ∙ ap Some (append_assoc w (take at bytes) (take count (drop at bytes)) ∙ ap (λ t. w ++ t) (sym (take-add at count bytes)));
-}
-
--- all of the bytes
-pub Front-whole : (bytes : Bytes) (old now : Option Bytes) (at : ℕ) → Front bytes old now at → length bytes ≤ at → Appends bytes old now (Ok tt)
-Front-whole bytes None now at f le = search rules
-Front-whole bytes (Some w) now at f le = record {
-  all = f.taken ∙ ap (λ t. Some (w ++ t)) (take_all at bytes le);
-  some = search rules;
-  none = search rules;
-}
-
--- some first bytes, and a fault
-pub Front-part : (bytes : Bytes) (old now : Option Bytes) (at : ℕ) → Front bytes old now at → Appends bytes old now (Err Failed)
-Front-part bytes None now at f = search rules
-Front-part bytes (Some w) now at f = record {
-  all = search rules;
-  some = λ _. (at, f.within, f.taken);
-  none = search rules;
 }
 
 -- what is left, as a slice has it

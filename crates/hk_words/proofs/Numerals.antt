@@ -41,11 +41,6 @@ too_long least most text h =
     let long : leb (length text) 10 ≡ false = lt-leb (length text) 10 h in
     none_by least most text (rw (long, and_false (all_ascii_digits text && leb 1 (length text))) refl)
 
-too_small : (least most : ℕ) (text : Bytes) → digits_value 10 text < least → number_in least most text ≡ None
-too_small least most text h =
-    let low : leb least (digits_value 10 text) ≡ false = lt-leb least (digits_value 10 text) h in
-    none_by least most text (rw (low, and_false (all_ascii_digits text && leb 1 (length text) && leb (length text) 10)) refl)
-
 too_large : (least most : ℕ) (text : Bytes) → most < digits_value 10 text → number_in least most text ≡ None
 too_large least most text h =
     let high : leb (digits_value 10 text) most ≡ false = lt-leb (digits_value 10 text) most h in
@@ -89,8 +84,3 @@ pub read_some : {E : Type 0} (least most n : ℕ) (text : Bytes) (r : Result ℕ
 read_some least most n text r h e s low high =
     let same = read_gives n text r h e s in
     ap Some same ∙ sym (number_gives least most text s (subst (λ k. least ≤ k) same low) (subst (λ k. k ≤ most) same high))
-
-pub read_outside : {E : Type 0} (least most n : ℕ) (text : Bytes) (r : Result ℕ E) → ParsesUnsigned 32 10 text r → result_ok r ≡ Some n → IsShortNumeral text → (n < least) ⊎ (most < n)
-    → None ≡ number_in least most text
-read_outside least most n text r h e s (inl low) = sym (too_small least most text (subst (λ k. k < least) (read_gives n text r h e s) low))
-read_outside least most n text r h e s (inr high) = sym (too_large least most text (subst (λ k. most < k) (read_gives n text r h e s) high))

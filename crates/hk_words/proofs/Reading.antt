@@ -382,9 +382,6 @@ pub record Finished (w : Option Bytes) (t : Bool) (o : Operands) (rows : List Ro
   pub number : first_of (codes "number") rows ≡ number_of o
   pub count : first_of (codes "count") rows ≡ count_of o
 
-value_of_row : Option Row → Option Bytes
-value_of_row = option_and_then (λ r. slice_get r.values 0)
-
 row_value : (a : Rule) (v : Option Bytes) (found : Option Row) → found ≡ option_map (λ x. row_for a (x ∷ [])) v → option_and_then (λ (r : Row). slice_get r.values 0) found ≡ v
 row_value a None found e = rw e refl
 row_value a (Some x) found e = rw e refl
