@@ -1,4 +1,4 @@
-use Rattle.std.proofs.Common.{◌≡◌, sym, ap, ◌∙◌, arith, ℕ, ◌+◌, ◌<◌, ◌≤◌, ◌∷◌, ◌++◌, [], append-nil, eqb-true, length, map, take, take_all, get_or, nat_eq, List, Option, Some, None, option_copied, option_map}
+use Rattle.std.proofs.Common.{◌≡◌, sym, ap, subst, ◌∙◌, arith, ℕ, ◌+◌, ◌<◌, ◌≤◌, ◌∷◌, ◌++◌, [], append-nil, eqb-true, length, map, take, take_all, get_or, nat_eq, List, Option, Some, None, option_copied, option_map}
 use Rattle.std.specs.Prelude.{filter_map}
 use Rattle.std.specs.List.{cons_option}
 use Rattle.std.proofs.lemmas.Bool.{OnTrue_at, OnTrue_from}
@@ -15,11 +15,21 @@ use Rattle.hk_store.specs.Entry.{EntryView}
 use Rattle.hk_store.specs.Traits.{sha_digests}
 use Rattle.hk_reuse.specs.Image.{entry_by, entry_with}
 use Rattle.hk_replay.specs.PlanItems.{items_of}
-use Rattle.hk_replay.specs.Storing.{facts_by}
+use Rattle.hk_replay.specs.Storing.{AreStorable, facts_by}
 use Rattle.hk_replay.proofs.LeftEntries.{leaves-turn}
 use Rattle.hk_replay.proofs.Matching.{table-items}
 use Rattle.hk_replay.proofs.leaving.leaves.Goals as goal
 use Rattle.hk_replay.proofs.leaving.leaves.Goals.{in-Some+else-at-len+in_ok-is_own+else-not-is_own, in_default}
+
+pub is_left-requires-clause-facts : goal.is_left-requires-clause-facts
+is_left-requires-clause-facts c =
+    let plan = c.args.plan.now in
+    let results : ResultsView = c.args.results.now in
+    let n = c.loop-number.number in
+    let pages : c.deref-in-Some.result.now ≡ results.pages = c.deref-in-Some.ensures.value ∙ ap (λ (r : ResultsView). r.pages) c.results.view_is in
+    let outcomes : map outcome_view c.deref.result.now ≡ results.outcomes = ap (map outcome_view) c.deref.ensures.value ∙ ap (λ (r : ResultsView). r.outcomes) c.results.view_is in
+    let done : facts_by (ending_at results.outcomes n) ≡ Some c.in-Some.facts.now = sym (c.done_facts.ensures ∙ ap (λ (l : List Ending). facts_by (ending_at l n)) outcomes) ∙ ap option_copied c.in-Some.is in
+    subst (λ (l : List (Option Page)). AreStorable plan (at_place l) c.in-Some.facts.now) (sym pages) (c.requires.results n c.in-Some.facts.now (omega (arith, c.loop-number-test.true, c.count-count.ensures.items)) done)
 
 pub loop-number-preserved : goal.loop-number-preserved
 loop-number-preserved c =
