@@ -19,7 +19,7 @@ use Rattle.hk_fix.specs.Pages.{Pages}
 use Rattle.hk_fix.specs.Report.{ending_at, upto}
 use Rattle.hk_fix.specs.Results.{ResultsView}
 use Rattle.hk_fix.specs.Run.{asks_of}
-use Rattle.hk_fix.specs.Task.{saved, note, End, done, Run}
+use Rattle.hk_fix.specs.Task.{saved, note, End, Run}
 use Rattle.hk_fix.specs.TaskLaws.{asks_of-append}
 use Rattle.hk_machine.specs.Machine.{plan_shape}
 use Rattle.hk_replay.specs.Storing.{HavePages, CanStore, facts_by}

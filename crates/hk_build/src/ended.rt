@@ -1,13 +1,18 @@
 // What a build gives.
 ghost use Rattle.std.specs.Prelude.{◌≡◌, IfOk};
 ghost use Rattle.std.specs.Option.{option_copied};
+ghost use Rattle.hk_chain.specs.Kept.{at_place};
+ghost use Rattle.hk_fix.specs.Report.{ending_at};
 ghost use Rattle.hk_reuse.specs.Entries.{Entries};
+ghost use Rattle.hk_reuse.specs.Image.{entry_list};
 ghost use Rattle.hk_replay.specs.Known.{IsKnown};
+ghost use Rattle.hk_replay.specs.PlanItems.{items_of};
+ghost use Rattle.hk_replay.specs.Storing.{CanStore};
 ghost use Rattle.hk_store.specs.Stored.{IsStored};
 ghost use Rattle.hk_store.specs.StoreText.{sealed, store_text};
+ghost use Rattle.hk_store.specs.Traits.{sha_digests};
 ghost use Rattle.hk_build.specs.Ended.{AreBytesOf, IsBuild, IsReplayed, HasReplayed};
 
-use crate::same::is_same;
 use hk_base::{NoMemory, Text};
 use hk_chain::ItemNo;
 use hk_fix::Results;
@@ -41,8 +46,7 @@ pub(crate) fn ended(
     ensures { IfOk result (λ b. (entries : Entries) → IsReplayed plan.now entries maker.now.records results → IsBuild plan.now entries b) }
 {
     let compiled = maker.out_of_date(alloc, plan, &results)?;
-    let left = maker.make_stored(alloc, plan, &results)?;
-    let store = bytes_left(alloc, &left, stored, bytes)?;
+    let store = bytes_left(alloc, plan, maker, &results, stored, bytes)?;
     Ok(Build {
         results,
         compiled,
@@ -50,22 +54,28 @@ pub(crate) fn ended(
     })
 }
 
-/// The bytes of the store that a build leaves. Where it has the entries of the store with which the build began, these are
-/// that store's bytes, and nothing is printed or hashed.
+/// The bytes of the store that a build leaves. Where it leaves the entries with which it began, these are the bytes that
+/// were there, and no entry is made, printed or hashed.
 fn bytes_left(
     alloc: Global,
-    left: &Stored,
+    plan: &Plan,
+    maker: &ReplayMaker<PlanMaker>,
+    results: &Results,
     stored: &Stored,
     bytes: Option<&[u8]>,
 ) -> Result<Text, NoMemory>
-    requires left { IsStored left.now }
+    requires known { IsKnown plan.now maker.now.known }
+    requires results { CanStore plan.now results.now }
+    requires left { IsStored (entry_list sha_digests (items_of plan.now) (ending_at results.now.outcomes) (at_place results.now.pages)) }
     requires bytes { AreBytesOf stored.now (option_copied bytes) }
-    ensures { IfOk result (λ t. t ≡ sealed (store_text left.now)) }
+    ensures { IfOk result (λ t. t ≡ sealed (store_text (entry_list sha_digests (items_of plan.now) (ending_at results.now.outcomes) (at_place results.now.pages)))) }
 {
     if let Some(bytes) = bytes {
-        if is_same(left, stored) {
+        let leaves_same = maker.leaves(alloc, plan, results, stored)?;
+        if leaves_same {
             return Text::from_slice(alloc, bytes);
         }
     }
-    print_store(alloc, left)
+    let left = maker.make_stored(alloc, plan, results)?;
+    print_store(alloc, &left)
 }

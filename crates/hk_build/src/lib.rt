@@ -12,7 +12,6 @@ mod pages;
 mod pool;
 mod replays;
 mod report;
-mod same;
 mod shown;
 mod site_fault;
 mod site_plan;

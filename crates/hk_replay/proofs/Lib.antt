@@ -9,6 +9,6 @@ pub mod Bridging
 pub mod Matching
 pub mod Planned
 pub mod Renewed
-pub mod Leaving
+pub mod LeftEntries
 mod FirstPlaces
 mod SamePages

@@ -116,7 +116,7 @@ fn pattern_fits(plan: &Plan, known: &Known, found: &MatchRecord) -> bool
 }
 
 /// Whether items have these identifiers.
-fn are_same(plan: &Plan, items: &[ItemNo], ids: &[Identifier]) -> bool
+pub(crate) fn are_same(plan: &Plan, items: &[ItemNo], ids: &[Identifier]) -> bool
     requires { AllByRecursion (λ i. i < length plan.now.items) items.now }
     ensures { result ≡ pointwise (eq_by_cmp ident_cmp) (map (id_at plan.now) items.now) ids.now }
 {

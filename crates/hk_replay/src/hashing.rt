@@ -38,7 +38,7 @@ impl HashedPage {
 }
 
 /// Whether two pages are equal. Linear.
-fn is_same(one: &Page, other: &Page) -> bool
+pub(crate) fn is_same(one: &Page, other: &Page) -> bool
     ensures { OnTrue result (one.now ≡ other.now) }
 {
     if !is_kind(one.kind, other.kind) {

@@ -7,6 +7,7 @@ mod hashing;
 mod inner;
 mod kept;
 mod known;
+mod leaving;
 mod look;
 mod maker;
 mod merging;

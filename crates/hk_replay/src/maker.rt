@@ -1,5 +1,6 @@
 // What makes replays over the compilers that another maker makes.
 ghost use Rattle.std.specs.Prelude.{◌≡◌, IfOk};
+ghost use Rattle.std.specs.Bool.{OnTrue};
 ghost use Rattle.hk_rules.specs.Plan.{lookups};
 ghost use Rattle.hk_store.specs.Stored.{IsStored};
 ghost use Rattle.hk_store.specs.Traits.{sha_digests};
@@ -21,8 +22,8 @@ use crate::numbering::records_of;
 use crate::record::Records;
 use crate::renewing::others_of;
 use crate::replay::{Held, Replay};
-use crate::storing;
 use crate::way::begin;
+use crate::{leaving, storing};
 use hk_base::{NoMemory, Shared};
 use hk_chain::ItemNo;
 use hk_fix::{Compiler, Maker, Results};
@@ -83,6 +84,25 @@ impl<K: Maker + Drop> ReplayMaker<K> {
             → v.items ≡ out_of_date sha_digests (items_of plan.now) (at_place results.now.pages) entries) }
     {
         others_of(alloc, self.records.get(), &results.pages, plan.count())
+    }
+
+    /// Whether the entries that a build leaves are those of a store: the entries of the items that are done, in order, of the
+    /// plan that this maker was made with. `NoMemory` only for want of memory. Linear in the items, in the matches of their
+    /// patterns, in the asked pages and in the saved ones; nothing is copied, and a page that was hashed before is compared,
+    /// and not hashed again.
+    pub fn leaves(
+        &self,
+        alloc: Global,
+        plan: &Plan,
+        results: &Results,
+        stored: &Stored,
+    ) -> Result<bool, NoMemory>
+        requires known { IsKnown plan.now self.now.known }
+        requires results { CanStore plan.now results.now }
+        ensures { IfOk result (λ b. OnTrue b (entry_list sha_digests (items_of plan.now) (ending_at results.now.outcomes)
+            (at_place results.now.pages) ≡ stored.now)) }
+    {
+        leaving::leaves(alloc, plan, &self.known, results, stored)
     }
 
     /// The entries of the items that are done, in order, of the plan that this maker was made with. `NoMemory` only for want

@@ -52,7 +52,7 @@ pub(crate) fn make_stored(
 }
 
 /// The facts of an item that is done.
-fn done_facts(outcomes: &[Outcome], item: ItemNo) -> Option<&Facts>
+pub(crate) fn done_facts(outcomes: &[Outcome], item: ItemNo) -> Option<&Facts>
     ensures { option_copied result ≡ facts_by (ending_at (map outcome_view outcomes.now) item) }
 {
     match outcomes.get(item.0 as usize) {
@@ -234,7 +234,7 @@ fn ask_of(
 }
 
 /// The page of a pair that has one.
-fn page_of(pages: &[Option<PageRef>], pair: PairNo) -> &PageRef
+pub(crate) fn page_of(pages: &[Option<PageRef>], pair: PairNo) -> &PageRef
     requires { is_some (at_place pages.now pair) ≡ true }
     ensures { at_place pages.now pair ≡ Some result.now }
 {

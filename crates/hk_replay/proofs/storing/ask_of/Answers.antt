@@ -9,7 +9,7 @@ use Rattle.hk_store.specs.Entry.{AskView}
 use Rattle.hk_store.specs.Traits.{sha_digests}
 use Rattle.hk_reuse.specs.Entries.{blank_page}
 use Rattle.hk_reuse.specs.Image.{page_at}
-use Rattle.hk_replay.proofs.Leaving.{layout-lookups, key-same, name-same, traits-own}
+use Rattle.hk_replay.proofs.LeftEntries.{layout-lookups, key-same, name-same, traits-own}
 use Rattle.hk_replay.proofs.Matching.{layout-items, id-same}
 use Rattle.hk_replay.proofs.storing.ask_of.Goals as goal
 

@@ -14,7 +14,7 @@ use Rattle.hk_store.specs.Traits.{sha_digests}
 use Rattle.hk_reuse.specs.Image.{entry_by, entry_with}
 use Rattle.hk_replay.specs.PlanItems.{items_of}
 use Rattle.hk_replay.specs.Storing.{AreStorable, facts_by}
-use Rattle.hk_replay.proofs.Leaving.{leaves-turn}
+use Rattle.hk_replay.proofs.LeftEntries.{leaves-turn}
 use Rattle.hk_replay.proofs.Matching.{table-items}
 use Rattle.hk_replay.proofs.storing.make_stored.Goals as goal
 use Rattle.hk_replay.proofs.storing.make_stored.Goals.{in-Some+in_ok-entry+in_ok-push, in_default}

@@ -9,7 +9,7 @@ use Rattle.hk_store.specs.Entry.{stored}
 use Rattle.hk_store.specs.Traits.{sha_digests}
 use Rattle.hk_reuse.specs.Entries.{blank_page}
 use Rattle.hk_reuse.specs.Image as image
-use Rattle.hk_replay.proofs.Leaving.{key-same, name-same}
+use Rattle.hk_replay.proofs.LeftEntries.{key-same, name-same}
 use Rattle.hk_replay.proofs.storing.mark_of.Goals as goal
 
 pub returns-in_ok-page-in-Saved : goal.returns-in_ok-page-in-Saved

@@ -1,7 +1,7 @@
 use Rattle.hk_chain.specs.Kept.{at_place}
 use Rattle.hk_chain.specs.Marks.{mark_view}
 use Rattle.hk_replay.specs.Storing.{HavePages}
-use Rattle.hk_replay.proofs.Leaving.{all-mapped}
+use Rattle.hk_replay.proofs.LeftEntries.{all-mapped}
 use Rattle.hk_replay.proofs.storing.marks_of.Goals as goal
 
 pub mark_of-requires-clause-pages : goal.mark_of-requires-clause-pages

@@ -5,7 +5,7 @@ use Rattle.hk_eval.specs.PlanTable.{table_of}
 use Rattle.hk_rules.specs.Plan.{id_at, pattern_at}
 use Rattle.hk_rules.proofs.ItemNumbers.{matches_in-below}
 use Rattle.hk_store.specs.Entry.{MatchView}
-use Rattle.hk_replay.proofs.Leaving.{matches-own, pattern-own, text-at}
+use Rattle.hk_replay.proofs.LeftEntries.{matches-own, pattern-own, text-at}
 use Rattle.hk_replay.proofs.Matching.{matches-same}
 use Rattle.hk_replay.proofs.storing.match_of.Goals as goal
 
