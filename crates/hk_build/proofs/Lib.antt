@@ -8,7 +8,6 @@ pub mod PageMaps
 pub mod Plans
 pub mod Renderings
 pub mod Replayed
-mod SameStores
 pub mod Showing
 mod SitePlans
 pub mod Storing

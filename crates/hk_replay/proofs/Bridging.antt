@@ -2,14 +2,13 @@
 use Rattle.std.proofs.Common.{◌≡◌, refl, sym, ap, subst, ◌∙◌, ℕ, ◌<◌, Bool, true, false, cond, ◌&&◌, List, [], ◌∷◌, map, Option, Some, None, option_map, nat_eq, bytes_eq}
 use Rattle.std.proofs.Math.Path.{fun_ext}
 use Rattle.std.specs.List.{AllByRecursion, IsDistinct, list_all}
-use Rattle.hk_base.specs.Bytes.{Bytes}
 use Rattle.hk_base.specs.Identifier.{Ident}
 use Rattle.hk_chain.specs.declared.page.Page.{Page}
-use Rattle.hk_chain.specs.Layout.{Shape, pairs}
+use Rattle.hk_chain.specs.Layout.{pairs}
 use Rattle.hk_chain.specs.Snapshots.{AreSnapshots}
 use Rattle.hk_fix.specs.Pages.{Pages}
 use Rattle.hk_fix.specs.Table.{Table, IsTable}
-use Rattle.hk_fix.specs.Task.{Task, gives, asks, notes, saved, Run, run}
+use Rattle.hk_fix.specs.Task.{gives, asks, notes, saved, Run, run}
 use Rattle.hk_fix.specs.TaskLaws.{follow}
 use Rattle.hk_store.specs.Digests.{Digests}
 use Rattle.hk_store.specs.Traits.{sha_digests}
@@ -20,7 +19,7 @@ use Rattle.hk_reuse.specs.Over as named
 use Rattle.hk_reuse.specs.Over.{finish_run}
 use Rattle.hk_reuse.specs.Replay as names
 use Rattle.hk_reuse.specs.Replay.{Attempt, broke, asked_pairs, pattern_numbers}
-use Rattle.hk_reuse.specs.Site.{Items, pair_named, own_pairs, AreItems}
+use Rattle.hk_reuse.specs.Site.{Items, pair_named, AreItems}
 use Rattle.hk_reuse.proofs.Tests.{and-both}
 use Rattle.hk_reuse.proofs.Laws.{Fitting, fitting, front-once, groups-once, groups-within}
 use Rattle.hk_replay.specs.declared.record.Step.{Step}
@@ -28,7 +27,7 @@ use Rattle.hk_replay.specs.declared.record.Step.TheVariants.{Asked, Saved}
 use Rattle.hk_replay.specs.declared.record.Record.{Record}
 use Rattle.hk_replay.specs.declared.record.Records.{Records}
 use Rattle.hk_replay.specs.Replays.{same_pages, attempt, over_by, over, record_at, pairs_saved, AreGroups, IsRecord, IsRecordBy, AreRecords}
-use Rattle.hk_replay.specs.Numbered.{StepView, group, save, step_view, record_view, numbered_step, numbered_entry, numbered_by, AreNumbered}
+use Rattle.hk_replay.specs.Numbered.{step_view, record_view, numbered_step, numbered_entry, numbered_by, AreNumbered}
 
 -- ---- one run
 

@@ -1,5 +1,5 @@
 -- The facts of a replay's run.
-use Rattle.std.proofs.Common.{◌≡◌, ◌≢◌, refl, sym, ap, ◌∙◌, subst, arith, ℕ, ◌<◌, Bool, true, false, cond, ◌||◌, inl, inr, List, [], ◌∷◌, ◌++◌, append_assoc, append-nil, map, Some, is_some, nat_eq, eqb-true, eq-eqb}
+use Rattle.std.proofs.Common.{◌≡◌, ◌≢◌, refl, sym, ap, ◌∙◌, subst, ℕ, Bool, true, false, cond, inl, inr, List, [], ◌∷◌, ◌++◌, append_assoc, append-nil, map, Some, is_some, nat_eq, eqb-true, eq-eqb}
 use Rattle.std.specs.List.{AllByRecursion, IsDistinct}
 use Rattle.hk_chain.specs.declared.page.Page.{Page}
 use Rattle.hk_chain.specs.Facts.{FactsView, TraceMark, save}
@@ -13,7 +13,6 @@ use Rattle.hk_fix.proofs.Orders.{clash, or_cases, or_right, the_some}
 use Rattle.hk_fix.proofs.Trails.{in-append, or_left}
 use Rattle.hk_reuse.specs.Over.{drop_saved}
 use Rattle.hk_reuse.proofs.Logs.{drop-append, patterns_of-append, patterns-drop, saved-append}
-use Rattle.hk_chain.specs.Snapshots.{Ascending}
 use Rattle.hk_reuse.proofs.Over.{IsRunOf}
 use Rattle.hk_reuse.proofs.Sites.{rising-pairs}
 use Rattle.hk_replay.specs.declared.record.Step.{Step}

@@ -1,5 +1,5 @@
 -- A plan's items are such as entries are held against, and a store's entries are well formed.
-use Rattle.std.proofs.Common.{◌≡◌, refl, sym, ap, subst, ◌∙◌, arith, ℕ, ◌<◌, Bool, true, false, cond, List, [], ◌∷◌, ◌++◌, length, map, Option, Some, None}
+use Rattle.std.proofs.Common.{◌≡◌, refl, sym, ap, subst, ◌∙◌, arith, ℕ, ◌<◌, Bool, true, false, cond, List, [], ◌∷◌, ◌++◌, length, map, Option, Some}
 use Rattle.std.specs.List.{AllByRecursion, IsDistinct}
 use Rattle.std.specs.Option.{option_and_then, unwrap_or}
 use Rattle.std.specs.Ordering.{eq_by_cmp}
@@ -10,16 +10,16 @@ use Rattle.hk_chain.specs.declared.page.Page.{Page}
 use Rattle.hk_chain.specs.Snapshots.{AreSnapshots}
 use Rattle.hk_eval.specs.PlanTable.{table_of}
 use Rattle.hk_eval.proofs.PlanNames.{found-at, plan-is_table}
-use Rattle.hk_fix.specs.Table.{Key, same_key}
+use Rattle.hk_fix.specs.Table.{same_key}
 use Rattle.hk_rules.specs.LinkedPlan.{IsLinkedPlan, snapshots_of}
 use Rattle.hk_rules.specs.Pairs.{saves, layout, count_of}
 use Rattle.hk_rules.specs.Plan.{no_item, id_at, chain_at, find_in, pair_of}
 use Rattle.hk_rules.specs.PlanView.{PlanView, IsPlan}
 use Rattle.hk_rules.proofs.ItemNumbers.{find_in-item}
 use Rattle.hk_rules.proofs.PairNumbers.{pairs_of-saves, plan-snapshots}
-use Rattle.hk_store.specs.Entry.{AskView, MarkView, asked, stored, EntryView}
+use Rattle.hk_store.specs.Entry.{MarkView, asked, stored, EntryView}
 use Rattle.hk_store.specs.Stored.{asked_keys, keys_of_asks, IsEntry, IsStored}
-use Rattle.hk_reuse.specs.Entries.{entries_in, AskOnce, IsSave, LastSaves, IsFormed, AreFormed}
+use Rattle.hk_reuse.specs.Entries.{entries_in, AskOnce, LastSaves, IsFormed, AreFormed}
 use Rattle.hk_reuse.specs.Site.{AreItems}
 use Rattle.hk_replay.specs.PlanItems.{items_of}
 

@@ -1,12 +1,12 @@
 -- Groups whose pages are known in the end, one pair more at a time, and what that says of entries.
-use Rattle.std.proofs.Common.{◌≡◌, refl, sym, ap, ◌∙◌, arith, ℕ, zero, suc, ◌+◌, ◌<◌, ◌≤◌, Bool, true, false, cond, ◌&&◌, not, List, [], ◌∷◌, ◌++◌, length, length-drop, map, drop, drop_of_length-le, filter, get_or, Option, Some, None, option_map, nat_eq, nat_lt, bytes_eq}
+use Rattle.std.proofs.Common.{◌≡◌, refl, sym, ap, ◌∙◌, arith, ℕ, zero, suc, ◌+◌, ◌<◌, ◌≤◌, Bool, true, false, cond, ◌&&◌, not, List, [], ◌∷◌, ◌++◌, length, length-drop, drop, drop_of_length-le, filter, get_or, Option, Some, None, option_map, nat_eq, nat_lt, bytes_eq}
 use Rattle.std.proofs.lemmas.List.{drop_more}
 use Rattle.std.proofs.lemmas.List.Elements.{filter-append}
 use Rattle.hk_base.specs.Bytes.{Bytes}
 use Rattle.hk_chain.specs.declared.page.Page.{Page}
 use Rattle.hk_fix.specs.Pages.{Pages, lacking, all_pages, with_page}
 use Rattle.hk_fix.specs.Report.{upto}
-use Rattle.hk_fix.specs.Task.{gives, Run, run, answered}
+use Rattle.hk_fix.specs.Task.{gives, run, answered}
 use Rattle.hk_store.specs.Entry.{EntryView}
 use Rattle.hk_store.specs.Traits.{sha_digests}
 use Rattle.hk_reuse.specs.Entries.{Entries, front, last_page}
@@ -21,7 +21,7 @@ use Rattle.hk_replay.specs.declared.record.Step.TheVariants.{Asked, Saved}
 use Rattle.hk_replay.specs.declared.record.Record.{Record}
 use Rattle.hk_replay.specs.declared.record.Records.{Records}
 use Rattle.hk_replay.specs.Replays.{digest, same_pages, attempt, record_at}
-use Rattle.hk_replay.specs.Numbered.{record_view, numbered_step, numbered_entry, numbered_by, AreNumbered}
+use Rattle.hk_replay.specs.Numbered.{record_view, numbered_entry, numbered_by, AreNumbered}
 use Rattle.hk_replay.specs.Renewing.{agree, is_passed, is_kept, others_below}
 use Rattle.hk_replay.proofs.Bridging.{attempts-same}
 

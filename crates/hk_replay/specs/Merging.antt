@@ -3,7 +3,7 @@ use Rattle.std.specs.Prelude.{ℕ, Bool, cond, List, [], ◌∷◌, map}
 use Rattle.hk_chain.specs.Facts.{FactsView, TraceMark, group, save}
 use Rattle.hk_fix.specs.Task.{Mark, note, used}
 use Rattle.hk_eval.specs.Noted.{no_facts, with_group, with_save, noted}
-use Rattle.hk_replay.specs.Replays.{passed, kept_by}
+use Rattle.hk_replay.specs.Replays.{passed}
 use Rattle.hk_replay.specs.declared.record.Step.{Step}
 use Rattle.hk_replay.specs.declared.record.Record.{Record}
 

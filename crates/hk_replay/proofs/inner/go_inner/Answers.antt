@@ -1,4 +1,4 @@
-use Rattle.std.proofs.Common.{◌≡◌, sym, ◌∙◌, subst, rules, ◌<◌, Bool, true, false, [], length, nat_eq, List, ℕ}
+use Rattle.std.proofs.Common.{◌≡◌, sym, ◌∙◌, subst, rules, ◌<◌, Bool, true, false, [], length, nat_eq, ℕ}
 use Rattle.std.specs.BTreeSet.{contains}
 use Rattle.std.specs.Ordering.{nat_cmp}
 use Rattle.hk_fix.specs.Calls.{Goes}

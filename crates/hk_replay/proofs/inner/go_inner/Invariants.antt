@@ -1,4 +1,4 @@
-use Rattle.std.proofs.Common.{◌+◌, ◌-◌, length, []}
+use Rattle.std.proofs.Common.{◌+◌, ◌-◌, length}
 use Rattle.hk_fix.specs.Pages.{lacking}
 use Rattle.hk_fix.specs.Run.{asks_of}
 use Rattle.hk_replay.specs.Going.{Between, known_run, all_saves}

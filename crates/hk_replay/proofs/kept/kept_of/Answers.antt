@@ -1,4 +1,4 @@
-use Rattle.std.proofs.Common.{◌≡◌, sym, ap, ◌∙◌, subst, refl, ℕ, Bool, ◌||◌, nat_eq}
+use Rattle.std.proofs.Common.{sym, ap, ◌∙◌, subst, ℕ, Bool}
 use Rattle.std.specs.BTreeSet.{BTreeSet, contains}
 use Rattle.std.specs.Ordering.{nat_cmp}
 use Rattle.hk_replay.specs.declared.record.Step.{Step}

@@ -1,4 +1,4 @@
-use Rattle.std.proofs.Common.{◌≡◌, sym, ap, ◌∙◌, subst, arith, ℕ, ◌+◌, ◌<◌, ◌∷◌, ◌++◌, [], length, length-append, get_or, List}
+use Rattle.std.proofs.Common.{◌≡◌, sym, ap, ◌∙◌, arith, ◌+◌, ◌∷◌, [], length, length-append, get_or, List}
 use Rattle.hk_base.specs.Bytes.{Bytes}
 use Rattle.hk_eval.specs.PlanTable.{traits_at}
 use Rattle.hk_fix.specs.Table.{Traits}

@@ -1,7 +1,7 @@
-use Rattle.std.proofs.Common.{◌≡◌, sym, ap, ◌∙◌, arith, ◌<◌, ◌∷◌, ◌++◌, [], length, map, take}
+use Rattle.std.proofs.Common.{sym, ap, ◌∙◌, arith, ◌<◌, ◌∷◌, ◌++◌, [], length, map, take}
 use Rattle.hk_pattern.specs.declared.pattern.Pattern.TheVariants.{HasNoVersion}
 use Rattle.hk_rules.specs.PatternText.{text_of}
-use Rattle.hk_rules.specs.Plan.{pattern_at, lookups}
+use Rattle.hk_rules.specs.Plan.{lookups}
 use Rattle.hk_replay.proofs.Matching.{pattern-same, map-more}
 use Rattle.hk_replay.proofs.known.texts_of.Goals as goal
 

@@ -1,4 +1,4 @@
-use Rattle.std.proofs.Common.{◌≡◌, drop, map, []}
+use Rattle.std.proofs.Common.{◌≡◌, drop, map}
 use Rattle.hk_chain.specs.Marks.{mark_view}
 use Rattle.hk_replay.specs.Merging.{merged}
 use Rattle.std.specs.BTreeSet.{contains}

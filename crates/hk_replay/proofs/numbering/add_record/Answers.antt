@@ -1,4 +1,4 @@
-use Rattle.std.proofs.Common.{◌≡◌, sym, ap, ◌∙◌, subst, arith, Some, None, ℕ, []}
+use Rattle.std.proofs.Common.{◌≡◌, sym, ap, ◌∙◌, arith, Some, None, ℕ, []}
 use Rattle.hk_rules.specs.Plan.{lookups}
 use Rattle.hk_store.specs.Entry.{EntryView}
 use Rattle.hk_store.specs.Traits.{sha_digests}

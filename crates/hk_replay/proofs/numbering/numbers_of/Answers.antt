@@ -1,4 +1,4 @@
-use Rattle.std.proofs.Common.{◌≡◌, sym, ap, ◌∙◌, ℕ, ◌∷◌, ◌++◌, [], map, take, List}
+use Rattle.std.proofs.Common.{sym, ap, ◌∙◌, ℕ, ◌∷◌, ◌++◌, [], map, take, List}
 use Rattle.std.specs.Prelude.{bytes_eq}
 use Rattle.std.specs.List.{position_from}
 use Rattle.std.specs.Option.{unwrap_or}

@@ -1,9 +1,8 @@
-use Rattle.std.proofs.Common.{◌≡◌, sym, ap, subst, ◌∙◌, arith, ℕ, ◌+◌, ◌-◌, ◌<◌, length, drop, get_or, List}
+use Rattle.std.proofs.Common.{◌≡◌, sym, ap, ◌∙◌, arith, ◌+◌, ◌-◌, drop, get_or, List}
 use Rattle.hk_rules.specs.Plan.{id_at}
 use Rattle.hk_store.specs.Entry.{EntryView}
 use Rattle.hk_store.specs.Traits.{sha_digests}
 use Rattle.hk_reuse.specs.Entries.{entries_in}
-use Rattle.hk_replay.specs.Adding.{view_at}
 use Rattle.hk_replay.specs.Numbered.{numbered_by}
 use Rattle.hk_replay.specs.PlanItems.{items_of}
 use Rattle.hk_replay.proofs.Matching.{table-items, adds-turn}

@@ -1,4 +1,4 @@
-use Rattle.std.proofs.Common.{◌≡◌, sym, ap, ◌∙◌, subst}
+use Rattle.std.proofs.Common.{◌≡◌, sym, ◌∙◌, subst}
 use Rattle.hk_eval.specs.PlanTable.{table_of}
 use Rattle.hk_fix.specs.Deeds.{pair_or}
 use Rattle.hk_rules.specs.Plan.{id_at}

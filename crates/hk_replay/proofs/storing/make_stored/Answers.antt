@@ -1,4 +1,4 @@
-use Rattle.std.proofs.Common.{◌≡◌, sym, ap, subst, ◌∙◌, arith, ℕ, ◌+◌, ◌<◌, ◌∷◌, ◌++◌, [], append-nil, length, map, List, Option, Some, None, option_copied, option_map}
+use Rattle.std.proofs.Common.{◌≡◌, sym, ap, subst, ◌∙◌, arith, ℕ, ◌+◌, ◌∷◌, ◌++◌, [], append-nil, map, List, Option, Some, None, option_copied, option_map}
 use Rattle.std.specs.Prelude.{filter_map}
 use Rattle.std.specs.List.{cons_option}
 use Rattle.hk_chain.specs.Facts.{FactsView}

@@ -1,6 +1,5 @@
-use Rattle.std.proofs.Common.{◌≡◌, sym, ap, ◌∙◌, ℕ, List, Option}
+use Rattle.std.proofs.Common.{◌≡◌, sym, ap, ◌∙◌}
 use Rattle.hk_chain.specs.Kept.{at_place}
-use Rattle.hk_chain.specs.declared.page.Page.{Page}
 use Rattle.hk_fix.specs.Results.{ResultsView}
 use Rattle.hk_reuse.specs.Entries.{Entries}
 use Rattle.hk_reuse.specs.Kept.{out_of_date}
