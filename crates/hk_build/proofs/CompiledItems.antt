@@ -15,7 +15,7 @@ use Rattle.hk_fix.specs.Task.{Mark, End, done, fault, waits, Run, run}
 use Rattle.hk_fix.specs.TaskLaws.{follow}
 use Rattle.hk_machine.specs.Machine.{plan_run, plan_shape}
 use Rattle.hk_reuse.proofs.Cutoffs.{kept-if_unchanged}
-use Rattle.hk_reuse.proofs.Histories.{others-complete}
+use Rattle.hk_reuse.proofs.Histories.{others-complete, seeds-sown}
 use Rattle.hk_reuse.proofs.Tests.{and-both}
 use Rattle.hk_reuse.specs.Entries.{AreFormed, Entries, IsFormed, no_entries}
 use Rattle.hk_reuse.specs.Fits.{fits, is_own}
@@ -86,6 +86,17 @@ module _ (plan : PlanView) (entries : Entries) where
       let given : IsSetting (plan_shape plan) over_run no_seeds = setting sha_digests plan made entries formed in
       others-complete (plan_shape plan) over_run over_run given.shape given.laws given.laws
       (λ i lt k within. record { saves = refl; ends = refl; facts = λ x e. refl }) refl kept finishes h all
+
+  pub seeded-setting : IsMadePlan plan → AreFormed entries → IsSetting (plan_shape plan) over_run (seeds plan entries)
+  seeded-setting made formed =
+      let given : IsSetting (plan_shape plan) over_run no_seeds = setting sha_digests plan made entries formed in
+      record {
+        shape = given.shape;
+        laws = given.laws;
+        sown =
+            seeds-sown (plan_shape plan) over_run over_run given.shape given.laws given.laws
+            (λ i lt k within. record { saves = refl; ends = refl; facts = λ x e. refl }) refl kept finishes;
+      }
 
 -- ---- what begins
 

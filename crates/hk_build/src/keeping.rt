@@ -4,7 +4,7 @@ ghost use Rattle.hk_eval.specs.PlanTable.{table_of};
 ghost use Rattle.hk_fix.specs.declared.event.Event.{Event};
 ghost use Rattle.hk_fix.specs.declared.event.Event.TheVariants.{Begin};
 ghost use Rattle.hk_fix.specs.Facts.{is_in};
-ghost use Rattle.hk_fix.specs.Fix.{IsComplete, is_finished, stands};
+ghost use Rattle.hk_fix.specs.Fix.{IsComplete, IsSetting, is_finished, stands};
 ghost use Rattle.hk_machine.specs.Machine.{plan_shape};
 ghost use Rattle.hk_reuse.specs.Entries.{AreFormed, Entries, IsFormed, no_entries};
 ghost use Rattle.hk_reuse.specs.Fits.{is_own};
@@ -20,12 +20,15 @@ ghost use Rattle.hk_build.specs.Built.{left};
 ghost use Rattle.hk_build.specs.Planned.{IsPlanned};
 
 /// Over any well-formed entries, a complete history of a build's runs is, without the events of the items that are kept, a
-/// complete history of the same runs with the pages and facts of the kept items as seeds. So exactly the items that are
+/// complete history of the same runs with the pages and facts of the kept items as seeds. The layout, these runs and these
+/// seeds are a setting, so all that holds of complete histories in a setting holds of this one. Exactly the items that are
 /// compiled begin in it. Each item is either kept or compiled.
 pub fn kept_items_leave_histories()
     ensures history { (plan : PlanView) (entries : Entries) (h : List Event) → IsPlanned plan → AreFormed entries
         → IsComplete (plan_shape plan) (run_of plan entries) no_seeds h
         → IsComplete (plan_shape plan) (run_of plan entries) (seeds plan entries) (shown plan entries h) }
+    ensures setting { (plan : PlanView) (entries : Entries) → IsPlanned plan → AreFormed entries
+        → IsSetting (plan_shape plan) (run_of plan entries) (seeds plan entries) }
     ensures begin { (plan : PlanView) (entries : Entries) (h : List Event) (item : ℕ)
         → IsComplete (plan_shape plan) (run_of plan entries) no_seeds h → item < length plan.items
         → stands (Begin item) (shown plan entries h) ≡ is_in (compiled plan entries) item }

@@ -164,7 +164,7 @@ module _ (lay : Shape) (slow fast : ℕ → Pages → Run Page) (shape : IsShape
       at true t = facts (status lay slow no_seeds i) (finishes i t).1
       at false t = refl
 
-  seeds-sown : IsSeeds lay S
+  pub seeds-sown : IsSeeds lay S
   seeds-sown = record { each = λ p lt. rw (lt-ltb p (pairs lay) lt) (at p lt (kept (item_of lay p)) refl ∙ sym (seeded-kept (item_of lay p))); none = λ p le. rw (le-ltb p (pairs lay) le) refl }
     where
       at : (p : ℕ) → p < pairs lay → (b : Bool) → kept (item_of lay p) ≡ b → is_some (cond b (F p) None) ≡ b
